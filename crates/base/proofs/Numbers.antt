@@ -1,0 +1,43 @@
+-- The numbers of the refusals are each other's inverse with `by`: no two refusals share one, and each of 1 to 21 is taken.
+--   by-number   the refusal of a refusal's number is that refusal
+--   number-by   the number of the refusal of n is n, for n from 1 to 21
+-- Assumes nothing.
+use mathlib.Core.Path.{_≡_, refl}
+use mathlib.Core.Bool.{Bool}
+use Prim.Native.Nat.{ℕ, _+_, _≤_, _<_}
+use native.Mathlib.Omega.{arith}
+use lib.Dec.{eqb, eqb→eq}
+use Rattle.base.specs.Refusals.{numberOf, by}
+use Rattle.base.specs.declared.Refusal.{Refusal}
+use Rattle.base.specs.declared.Refusal.the-variants.{FrameLength, FrameBits, FrameCrc, Index, PayloadLength, OutputShort, MemorySize, Map, RegisterLastByte, Ocr, PasswordLength, Lent, BusCards, BusIndex, NoBlock, BlockLength, BlockCrc, PastEnd, Protected, LockFailed, BlockCrosses}
+use Rattle.base.proofs.Span.{span}
+
+pub by-number : (r : Refusal) → by (numberOf r) ≡ r
+by-number FrameLength = refl
+by-number FrameBits = refl
+by-number FrameCrc = refl
+by-number Index = refl
+by-number PayloadLength = refl
+by-number OutputShort = refl
+by-number MemorySize = refl
+by-number Map = refl
+by-number RegisterLastByte = refl
+by-number Ocr = refl
+by-number PasswordLength = refl
+by-number Lent = refl
+by-number BusCards = refl
+by-number BusIndex = refl
+by-number NoBlock = refl
+by-number BlockLength = refl
+by-number BlockCrc = refl
+by-number PastEnd = refl
+by-number Protected = refl
+by-number LockFailed = refl
+by-number BlockCrosses = refl
+
+right : ℕ → Bool
+right n = eqb (numberOf (by n)) n
+
+pub number-by : (n : ℕ) → 1 ≤ n → n ≤ 21 → numberOf (by n) ≡ n
+unfolding right
+number-by n lo hi = eqb→eq (numberOf (by n)) n (span right 1 21 tt n lo (omega arith))

@@ -1,0 +1,68 @@
+// What every other crate shares: the refusals of document 01 and the answer of a call that writes
+// into a lent output. The vocabulary of the contracts is in specs/, the laws that proofs share in
+// proofs/.
+//
+// Offers: `Refusal`, `number`, `Written`.
+ghost use mathlib.Core.Path.{_≡_};
+ghost use Rattle.base.specs.Refusals.{numberOf};
+
+// Document 01, "Refusal numbers": a name for each row of the table, in its order.
+pub enum Refusal {
+    FrameLength,
+    FrameBits,
+    FrameCrc,
+    Index,
+    PayloadLength,
+    OutputShort,
+    MemorySize,
+    Map,
+    RegisterLastByte,
+    Ocr,
+    PasswordLength,
+    Lent,
+    BusCards,
+    BusIndex,
+    NoBlock,
+    BlockLength,
+    BlockCrc,
+    PastEnd,
+    Protected,
+    LockFailed,
+    BlockCrosses,
+}
+
+// What a call that writes into a lent output answers: how many bytes at its front are the answer,
+// or the refusal.
+pub enum Written {
+    Bytes(usize),
+    Refused(Refusal),
+}
+
+// The number that document 01 gives a refusal: the only place where the code turns one into it.
+pub fn number(r: Refusal) -> u8
+    ensures answer { λ n. ⌜ n ≡ numberOf r ⌝ }
+{
+    match r {
+        Refusal::FrameLength => 1,
+        Refusal::FrameBits => 2,
+        Refusal::FrameCrc => 3,
+        Refusal::Index => 4,
+        Refusal::PayloadLength => 5,
+        Refusal::OutputShort => 6,
+        Refusal::MemorySize => 7,
+        Refusal::Map => 8,
+        Refusal::RegisterLastByte => 9,
+        Refusal::Ocr => 10,
+        Refusal::PasswordLength => 11,
+        Refusal::Lent => 12,
+        Refusal::BusCards => 13,
+        Refusal::BusIndex => 14,
+        Refusal::NoBlock => 15,
+        Refusal::BlockLength => 16,
+        Refusal::BlockCrc => 17,
+        Refusal::PastEnd => 18,
+        Refusal::Protected => 19,
+        Refusal::LockFailed => 20,
+        Refusal::BlockCrosses => 21,
+    }
+}

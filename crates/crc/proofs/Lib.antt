@@ -1,0 +1,5 @@
+pub mod Fold
+pub mod Linear
+pub mod Rule
+pub mod Steps
+pub mod Xor
