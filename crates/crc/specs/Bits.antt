@@ -1,7 +1,7 @@
 -- Bits and bytes. Document 01, "Frames and blocks": the first bit sent is the highest.
 -- Assumes nothing.
 use mathlib.Core.List.{List, [], _∷_, _++_}
-use Prim.Native.Nat.{ℕ, zero, suc, _+_, _*_, _/_, _%_, _^_}
+use Prim.Native.Nat.{ℕ, zero, suc, _+_, _*_, _/_, _%_, _^_, _<_}
 use lib.ListN.{take, drop}
 
 -- the k low bits of a number, in the order in which they are sent
@@ -27,3 +27,8 @@ spelt l = onward 0 l
 abbrev pub octets : ℕ → List ℕ → List ℕ
 octets zero l = []
 octets (suc n) l = spelt (take 8 l) ∷ octets n (drop 8 l)
+
+-- a list of numbers below m: of bits for 2, of bytes for 256
+abbrev pub Below : ℕ → List ℕ → Type 0
+Below m [] = Unit {0}
+Below m (x ∷ l) = (x < m) × Below m l
