@@ -3,3 +3,4 @@ pub mod Linear
 pub mod Rule
 pub mod Steps
 pub mod Xor
+pub mod Bits
