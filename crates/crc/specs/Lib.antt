@@ -1,3 +1,4 @@
 pub mod Bits
 pub mod Crc
+pub mod Flip
 pub mod Table
