@@ -1,5 +1,6 @@
 pub mod Branch
 pub mod Cases
 pub mod Numbers
+pub mod Output
 pub mod Span
 pub mod Table

@@ -7,6 +7,7 @@
 --   word-spelt    the number that four bytes spell
 --   frame-bytes   a frame of 48 bits, by its six bytes
 --   framing-is    a frame's fields, by its six bytes; framing-good, where the framing bits are right
+--   r3-bytes      an R3, by its six bytes
 -- Assumes nothing.
 use mathlib.Core.Path.{_≡_, refl, sym, ap, ap₂, _∙_, subst⁻¹}
 use mathlib.Core.List.{List, [], _∷_, _++_, append-assoc}
@@ -24,9 +25,10 @@ use Rattle.crc.proofs.Bits.{bitsOf-append, bitsOf-low, bitsOf-spelt, bitsOf-bel
 use Rattle.crc.proofs.Linear.{bits-append}
 use Rattle.crc.proofs.Steps.{crc7-lt}
 use Rattle.wire.specs.Frames.{crc7Of, sealed, field, framingOf}
-use Rattle.wire.specs.Responses.{lastByte}
+use Rattle.wire.specs.Responses.{lastByte, r3Frame}
 use Rattle.wire.specs.declared.Framing.{Framing}
 use Rattle.wire.specs.declared.Framing.the-variants.{Framed, Unframed}
+use Rattle.wire.specs.declared.R3.{R3}
 
 pub crc7-bits : (bs : List ℕ) → crc7Of (bits bs) ≡ crc7 bs
 unfolding crc7 checkSum crc7Of
@@ -67,9 +69,9 @@ unfolding bits
 word-bits w =
     bitsOf-append 8 24 w
     ∙ ap (λ (l : List ℕ). bitsOf 8 (w / 16777216) ++ l)
-      (bitsOf-append 8 16 w
-      ∙ ap₂ (λ (k l : List ℕ). k ++ l) (sym (bitsOf-low 8 (w / 65536)))
-        (bitsOf-append 8 8 w ∙ ap₂ (λ (k l : List ℕ). k ++ l) (sym (bitsOf-low 8 (w / 256))) (sym (bitsOf-low 8 w))))
+    (bitsOf-append 8 16 w
+    ∙ ap₂ (λ (k l : List ℕ). k ++ l) (sym (bitsOf-low 8 (w / 65536)))
+    (bitsOf-append 8 8 w ∙ ap₂ (λ (k l : List ℕ). k ++ l) (sym (bitsOf-low 8 (w / 256))) (sym (bitsOf-low 8 w))))
 
 pub frame-bytes : (first w : ℕ) → first < 256 → w < 2 ^ 32
     → octets 6 (sealed (bitsOf 8 first ++ bitsOf 32 w)) ≡ (first ∷ bytes4 w) ++ (lastByte (first ∷ bytes4 w) ∷ [])
@@ -110,7 +112,7 @@ six b0 b1 b2 b3 b4 b5 h0 h5 =
     let end : field f 47 1 ≡ b5 % 2 = omega arith in
     let index : field f 2 6 ≡ b0 % 64 = spelt-bitsOf 6 b0 in
     let crc : field f 40 7 ≡ b5 / 2 =
-        ap (λ (l : List ℕ). spelt (take 7 l)) (bitsOf-append 7 1 b5) ∙ spelt-bitsOf 7 (b5 / 2) ∙ mod-eq-of-lt {n = b5 / 2} {m = 128} (omega arith)
+    ap (λ (l : List ℕ). spelt (take 7 l)) (bitsOf-append 7 1 b5) ∙ spelt-bitsOf 7 (b5 / 2) ∙ mod-eq-of-lt {n = b5 / 2} {m = 128} (omega arith)
     in
     simp (start, transmission, end, index, crc, crc7-bits (b0 ∷ b1 ∷ b2 ∷ b3 ∷ b4 ∷ []))
 
@@ -128,8 +130,8 @@ good b0 b5 x e0 e1 e5 = simp (eq-eqb (b0 / 128) 0 e0, eq-eqb (b0 / 64 % 2) 1 e1,
 
 pub framing-good : (f : List ℕ) → length f ≡ 6 → ((k : ℕ) → getD f k 0 < 256) → getD f 0 0 / 128 ≡ 0 → getD f 0 0 / 64 % 2 ≡ 1 → getD f 5 0 % 2 ≡ 1
     → framingOf f
-      ≡ meaning f (spelt (bits (getD f 1 0 ∷ getD f 2 0 ∷ getD f 3 0 ∷ getD f 4 0 ∷ [])))
-        (crc7 (getD f 0 0 ∷ getD f 1 0 ∷ getD f 2 0 ∷ getD f 3 0 ∷ getD f 4 0 ∷ []))
+    ≡ meaning f (spelt (bits (getD f 1 0 ∷ getD f 2 0 ∷ getD f 3 0 ∷ getD f 4 0 ∷ [])))
+    (crc7 (getD f 0 0 ∷ getD f 1 0 ∷ getD f 2 0 ∷ getD f 3 0 ∷ getD f 4 0 ∷ []))
 framing-good f n h e0 e1 e5 = framing-is f n h ∙ good (getD f 0 0) (getD f 5 0) _ e0 e1 e5
 
 pub five-bytes : (f : List ℕ) → length f ≡ 6 → take 5 f ≡ getD f 0 0 ∷ getD f 1 0 ∷ getD f 2 0 ∷ getD f 3 0 ∷ getD f 4 0 ∷ []
@@ -145,3 +147,19 @@ word-spelt a b c d ha hb hc hd =
     let e4 : d ≡ w % 256 = omega arith in
     let four : _≡_ {A = List ℕ} (a ∷ b ∷ c ∷ d ∷ []) (bytes4 w) = λ k. e1 k ∷ e2 k ∷ e3 k ∷ e4 k ∷ [] in
     ap (λ (l : List ℕ). spelt (bits l)) four ∙ ap spelt (sym (word-bits w)) ∙ spelt-bitsOf 32 w ∙ mod-eq-of-lt {n = w} {m = 4294967296} (omega arith)
+
+abbrev pub r3Bytes : ℕ → List ℕ
+r3Bytes x = 0x3F ∷ (128 + x / 16777216 % 128) ∷ x / 65536 % 256 ∷ x / 256 % 256 ∷ x % 256 ∷ 0xFF ∷ []
+
+pub r3-bytes : (r : R3) → r3Frame r ≡ r3Bytes (r .ocr)
+unfolding r3Frame
+r3-bytes r =
+    let x : ℕ = r .ocr in
+    let v : ℕ = 2147483648 + x % 2147483648 in
+    let e : _≡_ {A = List ℕ} (1 ∷ bitsOf 31 x) (bitsOf 32 v) = sym (ap₂ (λ (b : ℕ) (l : List ℕ). b ∷ l) {x = v / 2147483648 % 2} {y = 1} (omega arith) (sym (bitsOf-low 31 v) ∙ ap (bitsOf 31) {x = v % 2147483648} {y = x % 2147483648} (omega arith) ∙ bitsOf-low 31 x)) in
+    let e1 : v / 16777216 ≡ 128 + x / 16777216 % 128 = omega arith in
+    let e2 : v / 65536 % 256 ≡ x / 65536 % 256 = omega arith in
+    let e3 : v / 256 % 256 ≡ x / 256 % 256 = omega arith in
+    let e4 : v % 256 ≡ x % 256 = omega arith in
+    ap (λ (l : List ℕ). 0x3F ∷ octets 4 l ++ (0xFF ∷ [])) (e ∙ word-bits v)
+    ∙ ap (λ (l : List ℕ). 0x3F ∷ l ++ (0xFF ∷ [])) (octets-bits (bytes4 v) (omega arith, (omega arith, (omega arith, (omega arith, tt)))) ∙ λ k. e1 k ∷ e2 k ∷ e3 k ∷ e4 k ∷ [])

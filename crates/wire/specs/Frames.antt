@@ -29,9 +29,9 @@ sealed l = l ++ bitsOf 7 (crc7Of l) ++ (1 ∷ [])
 unfoldable pub commandFrame : ℕ → ℕ → List ℕ
 commandFrame index argument = octets 6 (sealed (0 ∷ 1 ∷ bitsOf 6 index ++ bitsOf 32 argument))
 
--- "Writing a frame: 4, 6"
-unfoldable pub commandWritten : ℕ → ℕ → List ℕ → Written
-commandWritten index argument out = pick (leb index 63) (fits (commandFrame index argument) out) (NotWritten (by 4))
+-- "Writing a frame: 4, 6": the index to write has 6 bits, and the frame fits the lent output
+abbrev pub indexed : ℕ → List ℕ → List ℕ → Written
+indexed index frame out = pick (leb index 63) (fits frame out) (NotWritten (by 4))
 
 -- the number in the w bits of a frame that come after its first k
 abbrev pub field : List ℕ → ℕ → ℕ → ℕ

@@ -3,13 +3,8 @@
 use mathlib.Core.Bool.{Bool}
 use mathlib.Core.List.{List, [], _∷_, _++_}
 use Prim.Native.Nat.{ℕ}
-use lib.Dec.{eqb, leb}
+use lib.Dec.{eqb}
 use lib.ListN.{take, getD}
-use Rattle.base.specs.Choice.{pick}
-use Rattle.base.specs.Output.{fits}
-use Rattle.base.specs.Refusals.{by}
-use Rattle.base.specs.declared.Written.{Written}
-use Rattle.base.specs.declared.Written.the-variants.{Refused}
 use Rattle.crc.specs.Bits.{bitsOf, bits, spelt, octets}
 use Rattle.wire.specs.Frames.{crc7Of, sealed}
 use Rattle.wire.specs.declared.R1.{R1}
@@ -19,10 +14,6 @@ use Rattle.wire.specs.declared.R3.{R3}
 -- "R1: 0, 0, index, status, CRC7, 1"
 unfoldable pub r1Frame : R1 → List ℕ
 r1Frame r = octets 6 (sealed (0 ∷ 0 ∷ bitsOf 6 (r .index) ++ bitsOf 32 (r .status)))
-
--- the index has 6 bits in an answer too: 4, then 6
-unfoldable pub r1Written : R1 → List ℕ → Written
-r1Written r out = pick (leb (r .index) 63) (fits (r1Frame r) out) (Refused (by 4))
 
 -- "R2, 17 bytes: 3F, then the 16 register bytes"
 unfoldable pub r2Frame : R2 → List ℕ

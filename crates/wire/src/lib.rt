@@ -13,8 +13,8 @@ ghost use lib.ListN.{length, drop};
 ghost use Rattle.base.specs.Output.{fits, laid};
 ghost use Rattle.crc.specs.Bits.{bitsOf, bits, spelt, octets};
 ghost use Rattle.wire.specs.Blocks.{blockOf, blockWritten, checkedOf};
-ghost use Rattle.wire.specs.Frames.{sealed, commandFrame, commandWritten, framingOf, frameOf};
-ghost use Rattle.wire.specs.Responses.{r1Frame, r1Written, r2Frame, r3Frame, lastByte, registerRight};
+ghost use Rattle.wire.specs.Frames.{sealed, commandFrame, indexed, framingOf, frameOf};
+ghost use Rattle.wire.specs.Responses.{r1Frame, r2Frame, r3Frame, lastByte, registerRight};
 
 // A frame whose length and framing bits are right, with the outcome of its CRC7; or the refusal.
 pub enum Framing {
@@ -139,7 +139,7 @@ fn put48(first: u8, word: u32, out: &mut [u8])
 
 // A command frame written: 4, 6.
 pub fn write_command(index: u8, argument: u32, out: &mut [u8]) -> Written
-    ensures answer { λ r. ⌜ r ≡ commandWritten index argument (now (out .entry)) ⌝ }
+    ensures answer { λ r. ⌜ r ≡ indexed index (commandFrame index argument) (now (out .entry)) ⌝ }
     ensures output { λ r. ⌜ now (out .exit) ≡ laid r (commandFrame index argument) (now (out .entry)) ⌝ }
 {
     if 63 < index {
@@ -154,7 +154,7 @@ pub fn write_command(index: u8, argument: u32, out: &mut [u8]) -> Written
 
 // R1 written: 4, 6.
 pub fn write_r1(r1: R1, out: &mut [u8]) -> Written
-    ensures answer { λ r. ⌜ r ≡ r1Written r1 (now (out .entry)) ⌝ }
+    ensures answer { λ r. ⌜ r ≡ indexed (r1 .index) (r1Frame r1) (now (out .entry)) ⌝ }
     ensures output { λ r. ⌜ now (out .exit) ≡ laid r (r1Frame r1) (now (out .entry)) ⌝ }
 {
     if 63 < r1.index {

@@ -31,17 +31,25 @@ returns-3 : tie.Need-returns-3
 unfolding checkedOf
 returns-3 c =
     let e = c .before .before .before .before .before .before in
-    simp
-    (le-leb _ _ (e .before .if1 .left), le-leb _ _ (e .if2 .left), ← c .before .before .before .half-word .ensures, ← sum-is (c .before),
-    eq-eqb _ _ (c .if3 .taken))
+    simp (
+      le-leb _ _ (e .before .if1 .left),
+      le-leb _ _ (e .if2 .left),
+      ← c .before .before .before .half-word .ensures,
+      ← sum-is (c .before),
+      eq-eqb _ _ (c .if3 .taken),
+    )
 
 returns-4 : tie.Need-returns-4
 unfolding checkedOf
 returns-4 c =
     let e = c .before .before .before .before .before .before in
-    simp
-    (le-leb _ _ (e .before .if1 .left), le-leb _ _ (e .if2 .left), ← c .before .before .before .half-word .ensures, ← sum-is (c .before),
-    ne-eqb _ _ (c .if3 .left))
+    simp (
+      le-leb _ _ (e .before .if1 .left),
+      le-leb _ _ (e .if2 .left),
+      ← c .before .before .before .half-word .ensures,
+      ← sum-is (c .before),
+      ne-eqb _ _ (c .if3 .left),
+    )
 
 pub check-block-spec : {M : Type 1} → statement M
 check-block-spec =

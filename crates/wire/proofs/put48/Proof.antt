@@ -1,93 +1,55 @@
-use Rattle.wire.specs.Frames.{sealed}
+-- `wire::put48` meets its contract: six stores from the front are the six bytes and the rest as it was, and by the law of a frame's
+-- bytes these are its 48 bits.
+-- Assumes nothing.
+use mathlib.Core.Path.{_≡_, refl, sym, ap, _∙_}
+use mathlib.Core.List.{List, [], _∷_, _++_}
+use Prim.Native.Nat.{ℕ, _^_, _≤_, _<_}
+use native.Mathlib.Omega.{arith}
 use borrow.Author.Needs.{needs}
+use denote.Ref.{now}
+use lib.ListN.{length, length-set, take, drop}
+use lib.Seq.{sets, sets-eq, take-at}
+use Rattle.crc.specs.Bits.{bitsOf, octets}
+use Rattle.wire.specs.Frames.{sealed}
+use Rattle.wire.specs.Responses.{lastByte}
+use Rattle.wire.proofs.InBytes.{bytes4, frame-bytes}
 use Rattle.wire.proofs.put48.Statement.{statement}
 use Rattle.wire.proofs.put48.Tie as tie
-use Rattle.wire.proofs.put48.Reads as reads
-use Rattle.wire.proofs.put48.Lts as lts
-use Rattle.wire.proofs.last_byte.Reads as last-byte-reads
 
--- src/lib.rt:131:5
-slice-write-out : tie.Need-slice-write-out
-slice-write-out c = search needs
+-- l is the output at entry, s the byte that closes the first five
+stored : (l : List ℕ) (first w s : ℕ) → first < 256 → w < 2 ^ 32 → 6 ≤ length l → s ≡ lastByte (take 5 (sets l 0 (first ∷ bytes4 w)))
+    → sets l 0 (first ∷ bytes4 w ++ (s ∷ [])) ≡ octets 6 (sealed (bitsOf 8 first ++ bitsOf 32 w)) ++ drop 6 l
+stored l first w s hf hw h e =
+    let five : take 5 (sets l 0 (first ∷ bytes4 w)) ≡ first ∷ bytes4 w =
+    ap (take 5) (sets-eq (first ∷ bytes4 w) l 0 (omega arith)) ∙ take-at (first ∷ bytes4 w) (drop 5 l) 5 refl
+    in
+    sets-eq (first ∷ bytes4 w ++ (s ∷ [])) l 0 h
+    ∙ ap (λ (x : ℕ). (first ∷ bytes4 w ++ (x ∷ [])) ++ drop 6 l) (e ∙ ap lastByte five)
+    ∙ ap (λ (f : List ℕ). f ++ drop 6 l) (sym (frame-bytes first w hf hw))
 
--- src/lib.rt:132:14
-cast-out : tie.Need-cast-out
-cast-out c = search needs
-
--- src/lib.rt:132:5
-slice-write-out-2 : tie.Need-slice-write-out-2
-slice-write-out-2 c = ?
-
--- src/lib.rt:133:14
-cast-out-2 : tie.Need-cast-out-2
-cast-out-2 c = search needs
-
--- src/lib.rt:133:5
-slice-write-out-3 : tie.Need-slice-write-out-3
-slice-write-out-3 c = ?
-
--- src/lib.rt:134:14
-cast-out-3 : tie.Need-cast-out-3
-cast-out-3 c = search needs
-
--- src/lib.rt:134:5
-slice-write-out-4 : tie.Need-slice-write-out-4
-slice-write-out-4 c = ?
-
--- src/lib.rt:135:14
-cast-out-4 : tie.Need-cast-out-4
-cast-out-4 c = search needs
-
--- src/lib.rt:135:5
-slice-write-out-5 : tie.Need-slice-write-out-5
-slice-write-out-5 c = ?
-
--- src/lib.rt:136:26
-sub-last-byte : tie.Need-sub-last-byte
-sub-last-byte c = search needs
-
--- src/lib.rt:136:26
-part-last-byte-start : tie.Need-part-last-byte-start
-part-last-byte-start c = search needs
-
--- src/lib.rt:136:26
-part-last-byte-end : tie.Need-part-last-byte-end
-part-last-byte-end c = ?
-
--- src/lib.rt:136:9
-last-byte-requires : tie.Need-last-byte-requires
-last-byte-requires c κs = search needs
-
--- src/lib.rt:137:5
-slice-write-out-6 : tie.Need-slice-write-out-6
-slice-write-out-6 c = search needs
-
--- src/lib.rt:127:1
-same-length : tie.Need-same-length
-same-length c = ?
-
--- src/lib.rt:127:1
 returns : tie.Need-returns
-unfolding sealed
-returns c = simp (c .last-byte .ensures)
+returns c =
+    let b = c .before .before .before .before in
+    let a = b .args in
+    stored (now (a .out)) (a .first) (a .word) (c .last-byte .result) (search needs) (search needs) (b .pre) (c .last-byte .ensures)
 
 pub put48-spec : {M : Type 1} → statement M
 put48-spec =
     tie.close
     (tie.spec
-    slice-write-out
-    cast-out
-    slice-write-out-2
-    cast-out-2
-    slice-write-out-3
-    cast-out-3
-    slice-write-out-4
-    cast-out-4
-    slice-write-out-5
-    sub-last-byte
-    part-last-byte-start
-    part-last-byte-end
-    last-byte-requires
-    slice-write-out-6
-    same-length
+    (λ c. search needs)
+    (λ c. search needs)
+    (λ c. simp length-set (omega arith))
+    (λ c. search needs)
+    (λ c. simp length-set (omega arith))
+    (λ c. search needs)
+    (λ c. simp length-set (omega arith))
+    (λ c. search needs)
+    (λ c. simp length-set (omega arith))
+    (λ c. search needs)
+    (λ c. search needs)
+    (λ c. simp length-set (omega arith))
+    (λ c κs. search needs)
+    (λ c. search needs)
+    (λ c. simp length-set refl)
     returns)

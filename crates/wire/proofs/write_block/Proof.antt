@@ -1,68 +1,69 @@
-use borrow.Author.Tests.{le-ltb, lt-ltb}
-use Rattle.wire.specs.Blocks.{blockOf}
-use Rattle.wire.specs.Blocks.{blockWritten}
+-- `wire::write_block` meets its contract: the copied payload and the two stores behind it are the block.
+-- Assumes nothing.
+use mathlib.Core.Path.{_≡_, refl, sym, ap, ap₂, _∙_}
+use mathlib.Core.Bool.{Bool}
+use mathlib.Core.List.{List, [], _∷_, _++_}
+use Prim.Native.Nat.{ℕ, _+_, _/_, _%_, _≤_}
+use native.Mathlib.Numerals.{add-one}
+use native.Mathlib.Omega.{arith}
 use borrow.Author.Needs.{needs}
+use borrow.Author.Tests.{le-leb, lt-leb}
+use denote.Ref.{now}
+use lib.ListN.{length, take, drop, set, length-set, length-append}
+use lib.Seq.{sets-eq, take-at, drop-append-add, drop-drop, length-front, length-take-le}
+use Rattle.base.specs.Output.{fits, laid}
+use Rattle.base.proofs.Branch.{tests}
+use Rattle.base.proofs.Output.{short, written}
+use Rattle.crc.specs.Crc.{crc16}
+use Rattle.wire.specs.Blocks.{blockOf, blockWritten}
 use Rattle.wire.proofs.write_block.Statement.{statement}
 use Rattle.wire.proofs.write_block.Tie as tie
-use Rattle.wire.proofs.write_block.Reads as reads
-use Rattle.wire.proofs.write_block.Lts as lts
-use Rattle.crc.proofs.copy_crc16.Reads as copy-crc16-reads
 
--- src/lib.rt:213:9
+long : (p : List ℕ) → length (blockOf p) ≡ length p + 2
+unfolding blockOf
+long p = length-append p (crc16 p / 256 ∷ crc16 p % 256 ∷ [])
+
+-- p is the payload, o the output at entry and l after the copy, s the sum
+stored : (p o l : List ℕ) (s : ℕ) → length p + 2 ≤ length o → l ≡ laid (fits p o) p o → s ≡ crc16 p
+    → set (set l (length p) (s / 256)) (length p + 1) (s % 256) ≡ blockOf p ++ drop (length p + 2) o
+unfolding blockOf
+stored p o l s h el es =
+    let n : ℕ = length p in
+    let vs : List ℕ = crc16 p / 256 ∷ crc16 p % 256 ∷ [] in
+    let copied : l ≡ p ++ drop n o = el ∙ simp (le-leb n (length o) (omega arith)) refl in
+    let same : length l ≡ length o = ap length copied ∙ length-front o p n (sym (length-take-le n o (omega arith))) in
+    ap₂ (λ (x k : ℕ). set (set l n (x / 256)) k (x % 256)) es (add-one n)
+    ∙ sets-eq vs l n (omega arith)
+    ∙ ap₂ (λ (x y : List ℕ). x ++ vs ++ y)
+    (ap (take n) copied ∙ take-at p (drop n o) n refl)
+    (ap (drop (n + 2)) copied ∙ drop-append-add p (drop n o) 2 ∙ drop-drop 2 n o)
+
 returns : tie.Need-returns
-unfolding blockOf blockWritten
-returns c = (simp (lt-ltb _ _ (c .if1 .taken)), (simp (lt-ltb _ _ (c .if1 .taken))))
+unfolding blockWritten
+returns c = (simp (lt-leb _ _ (c .if1 .taken)), refl)
 
--- src/lib.rt:216:9
 returns-2 : tie.Need-returns-2
-unfolding blockOf blockWritten
-returns-2 c = (simp (lt-ltb _ _ (c .if2 .taken), le-ltb _ _ (c .before .if1 .left)), (simp (lt-ltb _ _ (c .if2 .taken), le-ltb _ _ (c .before .if1 .left))))
+unfolding blockWritten
+returns-2 c = (simp (le-leb _ _ (c .before .if1 .left), lt-leb _ _ (c .if2 .taken)), refl)
 
--- src/lib.rt:218:20
-add-if3 : tie.Need-add-if3
-add-if3 c = search needs
-
--- src/lib.rt:219:9
 returns-3 : tie.Need-returns-3
-unfolding blockOf blockWritten
-returns-3 c = (simp (lt-ltb _ _ (c .if3 .taken), le-ltb _ _ (c .before .if2 .left), le-ltb _ _ (c .before .before .if1 .left)), (simp (lt-ltb _ _ (c .if3 .taken), le-ltb _ _ (c .before .if2 .left), le-ltb _ _ (c .before .before .if1 .left))))
+unfolding blockWritten
+returns-3 c =
+    let a = c .before .before .before .before .before .args in
+    let p = now (a .payload) in
+    (simp (le-leb _ _ (c .before .before .if1 .left), le-leb _ _ (c .before .if2 .left)) (short (blockOf p) (now (a .out)) (length p + 2) (long p) (c .if3 .taken)), refl)
 
--- src/lib.rt:221:9
-copy-crc16-requires : tie.Need-copy-crc16-requires
-copy-crc16-requires c κs = search needs
-
--- src/lib.rt:222:14
-cast-out : tie.Need-cast-out
-cast-out c = search needs
-
--- src/lib.rt:222:5
-slice-write-out : tie.Need-slice-write-out
-slice-write-out c = search needs
-
--- src/lib.rt:223:18
-cast-out-2 : tie.Need-cast-out-2
-cast-out-2 c = search needs
-
--- src/lib.rt:223:9
-add-out : tie.Need-add-out
-add-out c = search needs
-
--- src/lib.rt:223:5
-slice-write-out-2 : tie.Need-slice-write-out-2
-slice-write-out-2 c = ?
-
--- src/lib.rt:224:20
-add-t9 : tie.Need-add-t9
-add-t9 c = search needs
-
--- src/lib.rt:207:1
-same-length : tie.Need-same-length
-same-length c = search needs
-
--- src/lib.rt:207:1
 returns-4 : tie.Need-returns-4
-unfolding blockOf blockWritten
-returns-4 c = (simp (c .before .before .copy-crc16 .ensures, le-ltb _ _ (c .before .before .before .before .if3 .left), le-ltb _ _ (c .before .before .before .before .before .if2 .left), le-ltb _ _ (c .before .before .before .before .before .before .if1 .left)), (simp (c .before .before .copy-crc16 .ensures, le-ltb _ _ (c .before .before .before .before .if3 .left), le-ltb _ _ (c .before .before .before .before .before .if2 .left), le-ltb _ _ (c .before .before .before .before .before .before .if1 .left))))
+unfolding blockWritten
+returns-4 c =
+    let d = c .before .before in
+    let e = d .before .before in
+    let a = e .before .before .before .before .before .args in
+    let p = now (a .payload) in
+    let w = written (blockOf p) (now (a .out)) (length p + 2) (long p) _ (e .if3 .left)
+    (stored p (now (a .out)) (d .copy-crc16 .last .1 .0) (d .copy-crc16 .result) (e .if3 .left) (d .copy-crc16 .ensures .1) (d .copy-crc16 .ensures .0))
+    in
+    (simp (le-leb _ _ (e .before .before .if1 .left), le-leb _ _ (e .before .if2 .left)) (w .0), w .1)
 
 pub write-block-spec : {M : Type 1} → statement M
 write-block-spec =
@@ -70,14 +71,14 @@ write-block-spec =
     (tie.spec
     returns
     returns-2
-    add-if3
+    (λ c. search needs)
     returns-3
-    copy-crc16-requires
-    cast-out
-    slice-write-out
-    cast-out-2
-    add-out
-    slice-write-out-2
-    add-t9
-    same-length
+    (λ c κs. search needs)
+    (λ c. search needs)
+    (λ c. search needs)
+    (λ c. search needs)
+    (λ c. search needs)
+    (λ c. simp length-set (omega (arith, c .before .before .copy-crc16 .kept .1 .0)))
+    (λ c. search needs)
+    (λ c. search needs)
     returns-4)

@@ -1,40 +1,29 @@
-use borrow.Author.Tests.{le-ltb, lt-ltb}
-use Rattle.wire.specs.Frames.{commandFrame}
-use Rattle.wire.specs.Frames.{commandWritten}
+-- `wire::write_command` meets its contract: the tests lead to its refusals, and the six bytes stored are the frame.
+-- Assumes nothing.
+use mathlib.Core.Path.{refl}
+use native.Mathlib.Omega.{arith}
 use borrow.Author.Needs.{needs}
+use borrow.Author.Tests.{le-leb, lt-leb}
+use denote.Ref.{now}
+use Rattle.wire.specs.Frames.{commandFrame}
+use Rattle.wire.proofs.Writing.{framed}
 use Rattle.wire.proofs.write_command.Statement.{statement}
 use Rattle.wire.proofs.write_command.Tie as tie
-use Rattle.wire.proofs.write_command.Reads as reads
-use Rattle.wire.proofs.write_command.Lts as lts
-use Rattle.wire.proofs.put48.Reads as put48-reads
 
--- src/lib.rt:146:9
 returns : tie.Need-returns
-unfolding commandFrame commandWritten
-returns c = (simp (lt-ltb _ _ (c .if1 .taken)), (simp (lt-ltb _ _ (c .if1 .taken))))
+returns c = (simp (lt-leb _ _ (c .if1 .taken)), refl)
 
--- src/lib.rt:149:9
 returns-2 : tie.Need-returns-2
-unfolding commandFrame commandWritten
-returns-2 c = (simp (lt-ltb _ _ (c .if2 .taken), le-ltb _ _ (c .before .if1 .left)), (simp (lt-ltb _ _ (c .if2 .taken), le-ltb _ _ (c .before .if1 .left))))
+unfolding commandFrame
+returns-2 c = (simp (le-leb _ _ (c .before .if1 .left), lt-leb _ _ (c .if2 .taken)), refl)
 
--- src/lib.rt:151:11
-add-put48 : tie.Need-add-put48
-add-put48 c = search needs
-
--- src/lib.rt:151:5
-put48-requires : tie.Need-put48-requires
-put48-requires c κs = search needs
-
--- src/lib.rt:141:1
-same-length : tie.Need-same-length
-same-length c = search needs
-
--- src/lib.rt:141:1
 returns-3 : tie.Need-returns-3
-unfolding commandFrame commandWritten
-returns-3 c = (simp (c .before .before .put48 .ensures, le-ltb _ _ (c .before .before .before .before .if2 .left), le-ltb _ _ (c .before .before .before .before .before .if1 .left)), (simp (c .before .before .put48 .ensures, le-ltb _ _ (c .before .before .before .before .if2 .left), le-ltb _ _ (c .before .before .before .before .before .if1 .left))))
+unfolding commandFrame
+returns-3 c =
+    let p = c .before .before in
+    let e = p .before .before in
+    let a = e .before .before .before .args in
+    framed 1 (a .index) (a .argument) _ (now (a .out)) _ (omega arith) (e .before .if1 .left) (e .if2 .left) (omega arith) (p .put48 .ensures)
 
 pub write-command-spec : {M : Type 1} → statement M
-write-command-spec =
-    tie.close (tie.spec returns returns-2 add-put48 put48-requires same-length returns-3)
+write-command-spec = tie.close (tie.spec returns returns-2 (λ c. search needs) (λ c κs. search needs) (λ c. search needs) returns-3)

@@ -1,84 +1,47 @@
-use borrow.Author.Tests.{le-ltb, lt-ltb}
-use Rattle.wire.specs.Responses.{r3Frame}
+-- `wire::write_r3` meets its contract: six stores from the front are the six bytes of the answer.
+-- Assumes nothing.
+use mathlib.Core.Path.{_≡_, refl, sym, ap, _∙_}
+use mathlib.Core.List.{List, [], _∷_, _++_}
+use Prim.Native.Nat.{ℕ, _+_, _/_, _%_, _≤_}
+use native.Mathlib.Omega.{arith}
 use borrow.Author.Needs.{needs}
+use denote.Ref.{now}
+use lib.ListN.{length, length-set, drop}
+use lib.Seq.{sets, sets-eq}
+use Rattle.base.proofs.Output.{short, written}
+use Rattle.wire.specs.Responses.{r3Frame}
+use Rattle.wire.proofs.InBytes.{r3Bytes, r3-bytes}
 use Rattle.wire.proofs.write_r3.Statement.{statement}
 use Rattle.wire.proofs.write_r3.Tie as tie
-use Rattle.wire.proofs.write_r3.Reads as reads
-use Rattle.wire.proofs.write_r3.Lts as lts
 
--- src/lib.rt:194:9
 returns : tie.Need-returns
 unfolding r3Frame
-returns c = (simp (lt-ltb _ _ (c .if1 .taken)), (simp (lt-ltb _ _ (c .if1 .taken))))
+returns c = (short (r3Frame (c .before .args .r3)) (now (c .before .args .out)) 6 refl (c .if1 .taken), refl)
 
--- src/lib.rt:197:5
-slice-write-out : tie.Need-slice-write-out
-slice-write-out c = search needs
-
--- src/lib.rt:198:15
-add-out : tie.Need-add-out
-add-out c = search needs
-
--- src/lib.rt:198:14
-cast-out : tie.Need-cast-out
-cast-out c = search needs
-
--- src/lib.rt:198:5
-slice-write-out-2 : tie.Need-slice-write-out-2
-slice-write-out-2 c = ?
-
--- src/lib.rt:199:14
-cast-out-2 : tie.Need-cast-out-2
-cast-out-2 c = search needs
-
--- src/lib.rt:199:5
-slice-write-out-3 : tie.Need-slice-write-out-3
-slice-write-out-3 c = ?
-
--- src/lib.rt:200:14
-cast-out-3 : tie.Need-cast-out-3
-cast-out-3 c = search needs
-
--- src/lib.rt:200:5
-slice-write-out-4 : tie.Need-slice-write-out-4
-slice-write-out-4 c = ?
-
--- src/lib.rt:201:14
-cast-out-4 : tie.Need-cast-out-4
-cast-out-4 c = search needs
-
--- src/lib.rt:201:5
-slice-write-out-5 : tie.Need-slice-write-out-5
-slice-write-out-5 c = ?
-
--- src/lib.rt:202:5
-slice-write-out-6 : tie.Need-slice-write-out-6
-slice-write-out-6 c = search needs
-
--- src/lib.rt:189:1
-same-length : tie.Need-same-length
-same-length c = search needs
-
--- src/lib.rt:189:1
 returns-2 : tie.Need-returns-2
 unfolding r3Frame
-returns-2 c = (simp (le-ltb _ _ (c .if1 .left)), (simp (le-ltb _ _ (c .if1 .left))))
+returns-2 c =
+    let a = c .before .args in
+    let o = now (a .out) in
+    let bs = r3Bytes (a .r3 .ocr) in
+    written (r3Frame (a .r3)) o 6 refl (sets o 0 bs) (c .if1 .left)
+    (sets-eq bs o 0 (c .if1 .left) ∙ ap (λ (l : List ℕ). l ++ drop 6 o) (sym (r3-bytes (a .r3))))
 
 pub write-r3-spec : {M : Type 1} → statement M
 write-r3-spec =
     tie.close
     (tie.spec
     returns
-    slice-write-out
-    add-out
-    cast-out
-    slice-write-out-2
-    cast-out-2
-    slice-write-out-3
-    cast-out-3
-    slice-write-out-4
-    cast-out-4
-    slice-write-out-5
-    slice-write-out-6
-    same-length
+    (λ c. search needs)
+    (λ c. search needs)
+    (λ c. search needs)
+    (λ c. simp length-set (omega arith))
+    (λ c. search needs)
+    (λ c. simp length-set (omega arith))
+    (λ c. search needs)
+    (λ c. simp length-set (omega arith))
+    (λ c. search needs)
+    (λ c. simp length-set (omega arith))
+    (λ c. simp length-set (omega arith))
+    (λ c. simp length-set refl)
     returns-2)

@@ -1,0 +1,22 @@
+-- What a call that writes into a lent output shows at its returns.
+--   short     refused 6 where the output is shorter than the answer
+--   written   the answer's length and the output, where the answer stands at its front
+-- Assumes nothing.
+use mathlib.Core.Path.{_≡_, refl, sym, ap, _∙_}
+use mathlib.Core.Bool.{Bool}
+use mathlib.Core.List.{List, _++_}
+use Prim.Native.Nat.{ℕ, _≤_, _<_}
+use borrow.Author.Tests.{le-leb, lt-leb}
+use lib.ListN.{length, drop}
+use Rattle.base.specs.Choice.{pick}
+use Rattle.base.specs.Output.{fits, laid}
+use Rattle.base.specs.Refusals.{by}
+use Rattle.base.specs.declared.Written.{Written}
+use Rattle.base.specs.declared.Written.the-variants.{Bytes, Refused}
+
+module _ (bytes out : List ℕ) (n : ℕ) (long : length bytes ≡ n) where
+  pub short : length out < n → Refused (by 6) ≡ fits bytes out
+  short h = simp (long, lt-leb n (length out) h)
+
+  pub written : (last : List ℕ) → n ≤ length out → last ≡ bytes ++ drop n out → (Bytes n ≡ fits bytes out) × (last ≡ laid (Bytes n) bytes out)
+  written last h e = (simp (long, le-leb n (length out) h), simp long e)
