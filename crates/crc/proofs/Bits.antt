@@ -1,10 +1,12 @@
 -- Laws of bits and bytes: what the definitions of specs/Bits spell, and that they undo each other.
 --   below-append, below-take, below-drop, bitsOf-below, bits-below    lists of bits and their parts
+--   bits-append               the bits of joined lists of bytes
 --   length-bitsOf, length-bits, length-octets
 --   onward-is, spelt-lt       a number spelt is what came before, moved up, plus the rest, which is small
 --   onward-bitsOf, spelt-bitsOf, bitsOf-spelt, bitsOf-low   the bits of a number spell it
 --   bitsOf-append             the bits of a number are those of its high part and of its low part
 --   octets-bits, bits-octets, octets-below  bytes and their bits
+--   bits-take, bits-drop      the bits of a part
 -- Assumes nothing.
 use mathlib.Core.Path.{_≡_, refl, sym, ap, ap₂, _∙_, subst, subst⁻¹}
 use mathlib.Core.List.{List, [], _∷_, _++_}
@@ -14,7 +16,7 @@ use native.Mathlib.Omega.{arith}
 use lib.Arith.{digits-div, digits-mod, digits-lt, mod-mul}
 use lib.ListN.{length, take, drop, length-append, length-take, length-drop, take-append-drop}
 use lib.Pow.{pow-pos, shr-shr}
-use lib.Seq.{length-take-le}
+use lib.Seq.{length-take-le, take-at, drop-at}
 use Rattle.crc.specs.Bits.{bitsOf, bits, onward, spelt, octets, Below}
 
 -- ---- lists of small numbers
@@ -40,6 +42,11 @@ pub bits-below : (bs : List ℕ) → Below 2 (bits bs)
 unfolding bits
 bits-below [] = tt
 bits-below (b ∷ bs) = below-append 2 (bitsOf 8 b) (bits bs) (bitsOf-below 8 b) (bits-below bs)
+
+pub bits-append : (xs ys : List ℕ) → bits (xs ++ ys) ≡ bits xs ++ bits ys
+unfolding bits
+bits-append [] ys = refl
+bits-append (x ∷ xs) ys = ap (λ (l : List ℕ). bitsOf 8 x ++ l) (bits-append xs ys)
 
 -- ---- lengths
 pub length-bitsOf : (k x : ℕ) → length (bitsOf k x) ≡ k
@@ -137,3 +144,15 @@ octets-below (suc n) l e h =
       subst (λ (m : ℕ). spelt (take 8 l) < 2 ^ m) eight (spelt-lt (take 8 l) (below-take 2 8 l h)),
       octets-below n (drop 8 l) (length-drop 8 l ∙ omega arith) (below-drop 2 8 l h),
     )
+
+bits-split : (k : ℕ) (bs : List ℕ) → bits bs ≡ bits (take k bs) ++ bits (drop k bs)
+bits-split k bs = ap bits (sym (take-append-drop k bs)) ∙ bits-append (take k bs) (drop k bs)
+
+length-bits-take : (k : ℕ) (bs : List ℕ) → k ≤ length bs → length (bits (take k bs)) ≡ k * 8
+length-bits-take k bs h = length-bits (take k bs) ∙ ap (λ (m : ℕ). m * 8) (length-take-le k bs h)
+
+pub bits-take : (k : ℕ) (bs : List ℕ) → k ≤ length bs → take (k * 8) (bits bs) ≡ bits (take k bs)
+bits-take k bs h = ap (take (k * 8)) (bits-split k bs) ∙ take-at (bits (take k bs)) (bits (drop k bs)) (k * 8) (length-bits-take k bs h)
+
+pub bits-drop : (k : ℕ) (bs : List ℕ) → k ≤ length bs → drop (k * 8) (bits bs) ≡ bits (drop k bs)
+bits-drop k bs h = ap (drop (k * 8)) (bits-split k bs) ∙ drop-at (bits (take k bs)) (bits (drop k bs)) (k * 8) (length-bits-take k bs h)

@@ -22,10 +22,10 @@ use Rattle.base.specs.Choice.{pick}
 use Rattle.crc.specs.Bits.{bitsOf, spelt, Below}
 use Rattle.crc.specs.Crc.{reduced, divide, remainder}
 use Rattle.crc.specs.Flip.{flip}
-use Rattle.crc.proofs.Xor.{no-more}
+use Rattle.crc.proofs.Xor.{no-more, xor-equal}
 use Rattle.crc.proofs.Bits.{below-append, below-take, below-drop, bitsOf-below, length-bitsOf, spelt-lt, spelt-bitsOf, bitsOf-spelt}
 use Rattle.crc.proofs.Linear.{G, Sum, none, more, zero-lt-two, sum-left, divide-sum, divide-append, step-lt}
-use Rattle.crc.proofs.Remainder.{xor-equal, lower, only, the-remainder}
+use Rattle.crc.proofs.Remainder.{lower, only}
 
 -- ---- words and their flips
 below-set : (m k x : ℕ) (w : List ℕ) → Below m w → x < m → Below m (set w k x)
@@ -114,14 +114,8 @@ module _ (n p : ℕ) (hp : p < 2 ^ n) (odd : p % 2 ≡ 1) where
       (divide-sum n p hp (sum-flip k w b h) 0 0 (pow-pos n) (pow-pos n)
       ∙ ap (bitXor (divide n (G n p hp) 0 w)) e ∙ xor-self (divide n (G n p hp) 0 w))
 
-  pub flip-found : (l : List ℕ) → Below 2 l → (c : ℕ) → c ≡ remainder n (G n p hp) l → (k : ℕ) → k < length l + n
-      → spelt (drop (length l) (flip k (l ++ bitsOf n c))) ≡ remainder n (G n p hp) (take (length l) (flip k (l ++ bitsOf n c))) → ⊥
-  flip-found l b c hc k h e =
-      let w : List ℕ = l ++ bitsOf n c in
-      let r : ℕ = remainder n (G n p hp) l in
-      let bw : Below 2 w = below-append 2 l (bitsOf n c) b (bitsOf-below n c) in
-      let lw : length w ≡ length l + n = length-append l (bitsOf n c) ∙ ap (λ (x : ℕ). length l + x) (length-bitsOf n c) in
-      let lt : c < 2 ^ n = rw hc (the-remainder n p hp l b .lower) in
-      flip-seen k w bw (omega arith)
-      (right n p hp (length l) (flip k w) (flip-below k w bw) (length-set w k (1 - getD w k 0) ∙ lw) .0 e
-      ∙ sym (word n p hp l b c lt ∙ ap (bitXor r) hc ∙ xor-self r))
+  pub flip-found : (m k : ℕ) (w : List ℕ) → Below 2 w → length w ≡ m + n → k < m + n
+      → spelt (drop m w) ≡ remainder n (G n p hp) (take m w) → spelt (drop m (flip k w)) ≡ remainder n (G n p hp) (take m (flip k w)) → ⊥
+  flip-found m k w b l h e f =
+      flip-seen k w b (omega arith)
+      (right n p hp m (flip k w) (flip-below k w b) (length-set w k (1 - getD w k 0) ∙ l) .0 f ∙ sym (right n p hp m w b l .0 e))

@@ -1,7 +1,6 @@
 -- Long division by a polynomial of degree n, 2 ^ n + p, is linear, so one byte more is one look-up in the table of the single bytes.
 -- All laws are over the width n and serve both check sums.
 --   Sum           the sum of two lists of bits, bit by bit; sum-zeros, sum-append, sum-bitsOf, sum-left
---   bits-append   the bits of joined lists of bytes
 --   divide-append division goes on where it stopped
 --   divide-sum    division is linear
 --   divide-lt     what is left is below 2 ^ n; remainder-lt, check-lt
@@ -24,6 +23,7 @@ use borrow.Author.Tests.{lt-leb, le-leb}
 use Rattle.base.specs.Choice.{pick}
 use Rattle.crc.specs.Bits.{bitsOf, bits}
 use Rattle.crc.specs.Crc.{reduced, divide, remainder, checkSum}
+use Rattle.crc.proofs.Bits.{bits-append}
 use Rattle.crc.proofs.Xor.{xor-assoc, xor-middle, no-more}
 
 pub data Sum : List ℕ → List ℕ → List ℕ → Type 0 where
@@ -52,11 +52,6 @@ sum-bitsOf (suc k) x y =
 pub sum-left : (k x : ℕ) → Sum (replicate k 0) (bitsOf k x) (bitsOf k x)
 sum-left zero x = none
 sum-left (suc k) x = more zero-lt-two (bit-lt x k) refl (sum-left k x)
-
-pub bits-append : (xs ys : List ℕ) → bits (xs ++ ys) ≡ bits xs ++ bits ys
-unfolding bits
-bits-append [] ys = refl
-bits-append (x ∷ xs) ys = ap (λ (l : List ℕ). bitsOf 8 x ++ l) (bits-append xs ys)
 
 -- a bit times p
 abbrev times : ℕ → ℕ → ℕ

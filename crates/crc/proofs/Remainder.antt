@@ -1,9 +1,6 @@
 -- What divide leaves is the remainder that algebra means: the bits are a multiple of the divisor 2 ^ n + p, plus what is left; what is
 -- left has a lower degree than the divisor; and nothing else is so. All laws are over the width n and serve both check sums.
---   product         the divisor times a quotient, which is a list of bits, highest first
 --   quotient        a 1 where divide takes the divisor away
---   IsRemainder     what it is to be the remainder
---   xor-equal       numbers whose sum is 0 are equal
 --   division        the bits are the divisor times the quotient, plus what divide leaves
 --   lower           what divide leaves is below 2 ^ n
 --   only            whatever is below 2 ^ n, and together with a multiple of the divisor makes up the bits, is what divide leaves
@@ -22,46 +19,16 @@ use lib.Bits.{bitXor, xor-block, xor-self, xor-zero-r, xor-comm, xor-lt}
 use Rattle.base.specs.Choice.{pick}
 use Rattle.crc.specs.Bits.{bits, onward, spelt, Below}
 use Rattle.crc.specs.Crc.{reduced, divide, remainder, checkSum, generator7, generator16, crc7, crc16}
-use Rattle.crc.proofs.Xor.{xor-assoc, xor-middle}
+use Rattle.crc.specs.Remainder.{productOn, product, IsRemainder}
+use Rattle.crc.proofs.Xor.{xor-assoc, xor-middle, xor-undo, xor-equal, xor-front, xor-double}
 use Rattle.crc.proofs.Bits.{below-append, bits-below}
 use Rattle.crc.proofs.Linear.{G, zero-lt-two, step-lt}
 use Rattle.crc.proofs.Steps.{p7, p16}
-
--- the divisor g times a quotient, where the bits before these made s: times x, plus the divisor where the bit is 1
-abbrev pub productOn : ℕ → ℕ → List Bool → ℕ
-productOn g s [] = s
-productOn g s (t ∷ q) = productOn g (bitXor (s * 2) (pick t g 0)) q
-
--- the divisor g times a quotient
-abbrev pub product : ℕ → List Bool → ℕ
-product g q = productOn g 0 q
 
 -- the quotient of the division by g, whose degree is n, where s is left so far
 abbrev pub quotient : (n g : ℕ) → ℕ → List ℕ → List Bool
 quotient n g s [] = []
 quotient n g s (a ∷ l) = leb (2 ^ n) (s * 2 + a) ∷ quotient n g (reduced n g (s * 2 + a)) l
-
--- r is the remainder of the bits l by g, whose degree is n: they are a multiple of g, plus r; r has a lower degree; no other s is so
-pub record IsRemainder (n g : ℕ) (l : List ℕ) (r : ℕ) : Type 0 where
-  pub times : List Bool
-  pub sum : spelt l ≡ bitXor (product g times) r
-  pub lower : r < 2 ^ n
-  pub only : (q : List Bool) (s : ℕ) → s < 2 ^ n → spelt l ≡ bitXor (product g q) s → s ≡ r
-
--- ---- sums
--- the same number added twice is gone
-xor-undo : (a b : ℕ) → bitXor (bitXor a b) b ≡ a
-xor-undo a b = xor-assoc a b b ∙ ap (bitXor a) (xor-self b) ∙ xor-zero-r a
-
-pub xor-equal : (a b : ℕ) → bitXor a b ≡ 0 → a ≡ b
-xor-equal a b e = sym (xor-undo a b) ∙ ap (λ (x : ℕ). bitXor x b) e
-
--- and so is one that both have
-xor-front : (a x y : ℕ) → bitXor (bitXor a x) (bitXor a y) ≡ bitXor x y
-xor-front a x y = xor-middle a x a y ∙ ap (λ (z : ℕ). bitXor z (bitXor x y)) (xor-self a)
-
-xor-double : (s t : ℕ) → bitXor (s * 2) (t * 2) ≡ bitXor s t * 2
-xor-double s t = simp add-zero at (xor-block 1 s t 0 0 zero-lt-two zero-lt-two)
 
 -- ---- the bits are the divisor times the quotient, plus what is left
 -- a step: what is taken away, and what stays

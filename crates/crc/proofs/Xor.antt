@@ -1,4 +1,7 @@
--- Laws of bitXor that lib.Bits lacks: it is associative, and on bits it is computed.
+-- Laws of bitXor that lib.Bits lacks.
+--   xor-assoc, xor-middle   it is associative; the middle two of four change places
+--   xor-undo, xor-equal     the same number added twice is gone; numbers whose sum is 0 are equal
+--   xor-front, xor-double   a number that both have is gone; doubles
 -- Assumes nothing.
 use mathlib.Core.Path.{_≡_, refl, sym, ap, ap₂, _∙_}
 use Prim.Native.Nat.{ℕ, zero, suc, _+_, _*_, _/_, _%_, _^_, _<_}
@@ -55,3 +58,17 @@ xor-middle a b c d =
     xor-assoc a b (bitXor c d)
     ∙ ap (bitXor a) (sym (xor-assoc b c d) ∙ ap (λ (x : ℕ). bitXor x d) (xor-comm b c) ∙ xor-assoc c b d)
     ∙ sym (xor-assoc a c (bitXor b d))
+
+-- the same number added twice is gone
+pub xor-undo : (a b : ℕ) → bitXor (bitXor a b) b ≡ a
+xor-undo a b = xor-assoc a b b ∙ ap (bitXor a) (xor-self b) ∙ xor-zero-r a
+
+pub xor-equal : (a b : ℕ) → bitXor a b ≡ 0 → a ≡ b
+xor-equal a b e = sym (xor-undo a b) ∙ ap (λ (x : ℕ). bitXor x b) e
+
+-- and so is one that both have
+pub xor-front : (a x y : ℕ) → bitXor (bitXor a x) (bitXor a y) ≡ bitXor x y
+xor-front a x y = xor-middle a x a y ∙ ap (λ (z : ℕ). bitXor z (bitXor x y)) (xor-self a)
+
+pub xor-double : (s t : ℕ) → bitXor (s * 2) (t * 2) ≡ bitXor s t * 2
+xor-double s t = simp add-zero at (xor-block 1 s t 0 0 two-pos two-pos)

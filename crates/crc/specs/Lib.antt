@@ -1,4 +1,5 @@
 pub mod Bits
 pub mod Crc
 pub mod Flip
+pub mod Remainder
 pub mod Table

@@ -21,10 +21,9 @@ use Rattle.base.specs.Choice.{pick}
 use Rattle.base.specs.Refusals.{by}
 use Rattle.crc.specs.Bits.{bitsOf, bits, spelt, octets, Below}
 use Rattle.crc.specs.Crc.{checkSum, remainder, crc7}
-use Rattle.crc.proofs.Bits.{bitsOf-append, bitsOf-low, bitsOf-spelt, bitsOf-below, below-append, octets-bits, spelt-bitsOf}
-use Rattle.crc.proofs.Linear.{bits-append}
+use Rattle.crc.proofs.Bits.{bits-append, bitsOf-append, bitsOf-low, bitsOf-spelt, bitsOf-below, below-append, octets-bits, spelt-bitsOf}
 use Rattle.crc.proofs.Steps.{crc7-lt}
-use Rattle.wire.specs.Frames.{crc7Of, sealed, field, framingOf}
+use Rattle.wire.specs.Frames.{crc7Of, sealed, field, sentOf, framingOf}
 use Rattle.wire.specs.Responses.{lastByte, r3Frame}
 use Rattle.wire.specs.declared.Framing.{Framing}
 use Rattle.wire.specs.declared.Framing.the-variants.{Framed, Unframed}
@@ -82,7 +81,7 @@ frame-bytes first w hf hw =
     ∙ ap (octets 6) (sealed-bits h)
     ∙ octets-bits (h ++ (lastByte h ∷ [])) (hf, (omega arith, (omega arith, (omega arith, (omega arith, (last-lt h, tt))))))
 
-six-bytes : (f : List ℕ) → length f ≡ 6 → f ≡ getD f 0 0 ∷ getD f 1 0 ∷ getD f 2 0 ∷ getD f 3 0 ∷ getD f 4 0 ∷ getD f 5 0 ∷ []
+pub six-bytes : (f : List ℕ) → length f ≡ 6 → f ≡ getD f 0 0 ∷ getD f 1 0 ∷ getD f 2 0 ∷ getD f 3 0 ∷ getD f 4 0 ∷ getD f 5 0 ∷ []
 six-bytes [] e = absurd (omega arith)
 six-bytes (b0 ∷ []) e = absurd (omega arith)
 six-bytes (b0 ∷ b1 ∷ []) e = absurd (omega arith)
@@ -104,9 +103,9 @@ byBytes b0 b1 b2 b3 b4 b5 =
     (Unframed (by 2))
 
 six : (b0 b1 b2 b3 b4 b5 : ℕ) → b0 < 256 → b5 < 256 → framingOf (b0 ∷ b1 ∷ b2 ∷ b3 ∷ b4 ∷ b5 ∷ []) ≡ byBytes b0 b1 b2 b3 b4 b5
-unfolding framingOf bits
+unfolding framingOf sentOf bits
 six b0 b1 b2 b3 b4 b5 h0 h5 =
-    let f : List ℕ = b0 ∷ b1 ∷ b2 ∷ b3 ∷ b4 ∷ b5 ∷ [] in
+    let f : List ℕ = bits (b0 ∷ b1 ∷ b2 ∷ b3 ∷ b4 ∷ b5 ∷ []) in
     let start : field f 0 1 ≡ b0 / 128 = omega arith in
     let transmission : field f 1 1 ≡ b0 / 64 % 2 = omega arith in
     let end : field f 47 1 ≡ b5 % 2 = omega arith in

@@ -1,2 +1,4 @@
+pub mod FrameFlips
+pub mod FrameTheorems
 pub mod InBytes
 pub mod Writing

@@ -33,23 +33,25 @@ commandFrame index argument = octets 6 (sealed (0 ∷ 1 ∷ bitsOf 6 index ++ bi
 abbrev pub indexed : ℕ → List ℕ → List ℕ → Written
 indexed index frame out = pick (leb index 63) (fits frame out) (NotWritten (by 4))
 
--- the number in the w bits of a frame that come after its first k
+-- the number in the w bits that come after the first k
 abbrev pub field : List ℕ → ℕ → ℕ → ℕ
-field frame k w = spelt (take w (drop k (bits frame)))
+field sent k w = spelt (take w (drop k sent))
 
--- 1: a frame is 6 bytes. 2: the start bit is 0, the transmission bit 1, the end bit 1, each tested for itself.
--- What is framed so has an index, an argument and a CRC7 that is right or wrong.
+-- 2: of the 48 bits sent the start bit is 0, the transmission bit 1 and the end bit 1, each tested for itself.
+-- Bits that are framed so have an index, an argument, and a CRC7 that is right or wrong.
+unfoldable pub sentOf : List ℕ → Framing
+sentOf sent =
+    pick (eqb (field sent 0 1) 0)
+    (pick (eqb (field sent 1 1) 1)
+    (pick (eqb (field sent 47 1) 1)
+    (Framed (field sent 2 6) (field sent 8 32) (eqb (field sent 40 7) (crc7Of (take 40 sent))))
+    (Unframed (by 2)))
+    (Unframed (by 2)))
+    (Unframed (by 2))
+
+-- 1: a frame is 6 bytes
 unfoldable pub framingOf : List ℕ → Framing
-framingOf frame =
-    pick (eqb (length frame) 6)
-    (pick (eqb (field frame 0 1) 0)
-    (pick (eqb (field frame 1 1) 1)
-    (pick (eqb (field frame 47 1) 1)
-    (Framed (field frame 2 6) (field frame 8 32) (eqb (field frame 40 7) (crc7Of (take 40 (bits frame)))))
-    (Unframed (by 2)))
-    (Unframed (by 2)))
-    (Unframed (by 2)))
-    (Unframed (by 1))
+framingOf frame = pick (eqb (length frame) 6) (sentOf (bits frame)) (Unframed (by 1))
 
 -- 3: the CRC7 is right
 abbrev pub checked : Framing → Frame

@@ -1,3 +1,4 @@
 pub mod Blocks
+pub mod Flipped
 pub mod Frames
 pub mod Responses
