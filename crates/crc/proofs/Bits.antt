@@ -6,6 +6,7 @@
 --   onward-bitsOf, spelt-bitsOf, bitsOf-spelt, bitsOf-low   the bits of a number spell it
 --   bitsOf-append             the bits of a number are those of its high part and of its low part
 --   octets-bits, bits-octets, octets-below  bytes and their bits
+--   onward-bits               the number that bytes spell
 --   bits-take, bits-drop      the bits of a part
 -- Assumes nothing.
 use mathlib.Core.Path.{_≡_, refl, sym, ap, ap₂, _∙_, subst, subst⁻¹}
@@ -144,6 +145,11 @@ octets-below (suc n) l e h =
       subst (λ (m : ℕ). spelt (take 8 l) < 2 ^ m) eight (spelt-lt (take 8 l) (below-take 2 8 l h)),
       octets-below n (drop 8 l) (length-drop 8 l ∙ omega arith) (below-drop 2 8 l h),
     )
+
+-- a byte more moves what came before up by eight bits
+pub onward-bits : (s b : ℕ) (bs : List ℕ) → b < 256 → onward s (bits (b ∷ bs)) ≡ onward (s * 256 + b) (bits bs)
+unfolding bits
+onward-bits s b bs h = ap (λ (x : ℕ). onward x (bits bs)) (onward-bitsOf 8 s b ∙ ap (λ (r : ℕ). s * 256 + r) (mod-eq-of-lt h))
 
 bits-split : (k : ℕ) (bs : List ℕ) → bits bs ≡ bits (take k bs) ++ bits (drop k bs)
 bits-split k bs = ap bits (sym (take-append-drop k bs)) ∙ bits-append (take k bs) (drop k bs)

@@ -118,7 +118,7 @@ sent-is b0 b1 b2 b3 b4 b5 i a s =
     let ea : word ≡ bitsOf 32 a = sym (bitsOf-spelt word (bits-below (b1 ∷ b2 ∷ b3 ∷ b4 ∷ []))) ∙ ap (bitsOf 32) (s .argument) in
     let eh : take 40 w ≡ h = λ k. e0 k ∷ e1 k ∷ (ei k ++ ea k) in
     let ec : take 7 (drop 40 w) ≡ bitsOf 7 (crc7Of h) =
-        sym (bitsOf-spelt (take 7 (bitsOf 8 b5)) (below-take 2 7 (bitsOf 8 b5) (bitsOf-below 8 b5))) ∙ ap (bitsOf 7) (s .crc ∙ ap crc7Of eh)
+    sym (bitsOf-spelt (take 7 (bitsOf 8 b5)) (below-take 2 7 (bitsOf 8 b5) (bitsOf-below 8 b5))) ∙ ap (bitsOf 7) (s .crc ∙ ap crc7Of eh)
     in
     λ k. eh k ++ ec k ++ (e47 k ∷ [])
 
@@ -135,9 +135,10 @@ write-after-read f b i a e =
     let b48 = bits-below f in
     let n48 : length (bits f) ≡ 48 = length-bits f ∙ ap (λ (n : ℕ). n * 8) (r .0) in
     let is : bits f ≡ commandBits i a =
-        subst⁻¹ (λ (g : List ℕ). Sent (bits g) i a → bits g ≡ commandBits i a) (six-bytes f (r .0))
-        (sent-is (getD f 0 0) (getD f 1 0) (getD f 2 0) (getD f 3 0) (getD f 4 0) (getD f 5 0) i a) (r .1)
-    in
-    (subst (λ (x : ℕ). x < 2 ^ 6) (r .1 .index) (field-lt (bits f) 2 6 b48 (omega arith)),
-    subst (λ (x : ℕ). x < 2 ^ 32) (r .1 .argument) (field-lt (bits f) 8 32 b48 (omega arith)),
-    sym (octets-bits f b) ∙ ap₂ octets (r .0) is)
+    subst⁻¹ (λ (g : List ℕ). Sent (bits g) i a → bits g ≡ commandBits i a) (six-bytes f (r .0))
+    (sent-is (getD f 0 0) (getD f 1 0) (getD f 2 0) (getD f 3 0) (getD f 4 0) (getD f 5 0) i a) (r .1)
+    in (
+      subst (λ (x : ℕ). x < 2 ^ 6) (r .1 .index) (field-lt (bits f) 2 6 b48 (omega arith)),
+      subst (λ (x : ℕ). x < 2 ^ 32) (r .1 .argument) (field-lt (bits f) 8 32 b48 (omega arith)),
+      sym (octets-bits f b) ∙ ap₂ octets (r .0) is,
+    )

@@ -21,7 +21,7 @@ use Rattle.base.specs.Choice.{pick}
 use Rattle.base.specs.Refusals.{by}
 use Rattle.crc.specs.Bits.{bitsOf, bits, spelt, octets, Below}
 use Rattle.crc.specs.Crc.{checkSum, remainder, crc7}
-use Rattle.crc.proofs.Bits.{bits-append, bitsOf-append, bitsOf-low, bitsOf-spelt, bitsOf-below, below-append, octets-bits, spelt-bitsOf}
+use Rattle.crc.proofs.Bits.{bits-append, bitsOf-append, bitsOf-low, bitsOf-spelt, onward-bits, bitsOf-below, below-append, octets-bits, spelt-bitsOf}
 use Rattle.crc.proofs.Steps.{crc7-lt}
 use Rattle.wire.specs.Frames.{crc7Of, sealed, field, sentOf, framingOf}
 use Rattle.wire.specs.Responses.{lastByte, r3Frame}
@@ -138,14 +138,13 @@ five-bytes f e = ap (take 5) (six-bytes f e)
 
 pub word-spelt : (a b c d : ℕ) → a < 256 → b < 256 → c < 256 → d < 256
     → spelt (bits (a ∷ b ∷ c ∷ d ∷ [])) ≡ a * 16777216 + b * 65536 + c * 256 + d
+unfolding bits
 word-spelt a b c d ha hb hc hd =
-    let w : ℕ = a * 16777216 + b * 65536 + c * 256 + d in
-    let e1 : a ≡ w / 16777216 = omega arith in
-    let e2 : b ≡ w / 65536 % 256 = omega arith in
-    let e3 : c ≡ w / 256 % 256 = omega arith in
-    let e4 : d ≡ w % 256 = omega arith in
-    let four : _≡_ {A = List ℕ} (a ∷ b ∷ c ∷ d ∷ []) (bytes4 w) = λ k. e1 k ∷ e2 k ∷ e3 k ∷ e4 k ∷ [] in
-    ap (λ (l : List ℕ). spelt (bits l)) four ∙ ap spelt (sym (word-bits w)) ∙ spelt-bitsOf 32 w ∙ mod-eq-of-lt {n = w} {m = 4294967296} (omega arith)
+    onward-bits 0 a (b ∷ c ∷ d ∷ []) ha
+    ∙ onward-bits (0 * 256 + a) b (c ∷ d ∷ []) hb
+    ∙ onward-bits ((0 * 256 + a) * 256 + b) c (d ∷ []) hc
+    ∙ onward-bits (((0 * 256 + a) * 256 + b) * 256 + c) d [] hd
+    ∙ omega arith
 
 abbrev pub r3Bytes : ℕ → List ℕ
 r3Bytes x = 0x3F ∷ (128 + x / 16777216 % 128) ∷ x / 65536 % 256 ∷ x / 256 % 256 ∷ x % 256 ∷ 0xFF ∷ []

@@ -1,3 +1,4 @@
+pub mod BlockTheorems
 pub mod FrameFlips
 pub mod FrameTheorems
 pub mod InBytes
