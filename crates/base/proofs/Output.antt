@@ -1,13 +1,19 @@
 -- What a call that writes into a lent output shows at its returns.
 --   short     refused 6 where the output is shorter than the answer
 --   written   the answer's length and the output, where the answer stands at its front
+-- and what that means to whoever lent the output:
+--   untouched   an output that is too short is left as it was
+--   rest-kept   nothing past the answer's end is written, whether the answer fits or not
 -- Assumes nothing.
 use mathlib.Core.Path.{_≡_, refl, sym, ap, _∙_}
-use mathlib.Core.Bool.{Bool}
+use mathlib.Core.Bool.{Bool, true, false}
 use mathlib.Core.List.{List, _++_}
 use Prim.Native.Nat.{ℕ, _≤_, _<_}
 use borrow.Author.Tests.{le-leb, lt-leb}
+use lib.Dec.{leb}
 use lib.ListN.{length, drop}
+use lib.Seq.{drop-append-seam}
+use Rattle.base.proofs.Cases.{cases}
 use Rattle.base.specs.Choice.{pick}
 use Rattle.base.specs.Output.{fits, laid}
 use Rattle.base.specs.Refusals.{by}
@@ -20,3 +26,12 @@ module _ (bytes out : List ℕ) (n : ℕ) (long : length bytes ≡ n) where
 
   pub written : (last : List ℕ) → n ≤ length out → last ≡ bytes ++ drop n out → (Bytes n ≡ fits bytes out) × (last ≡ laid (Bytes n) bytes out)
   written last h e = (simp (long, le-leb n (length out) h), simp long e)
+
+pub untouched : (bytes out : List ℕ) → length out < length bytes → laid (fits bytes out) bytes out ≡ out
+untouched bytes out h = simp (lt-leb (length bytes) (length out) h)
+
+pub rest-kept : (bytes out : List ℕ) → drop (length bytes) (laid (fits bytes out) bytes out) ≡ drop (length bytes) out
+rest-kept bytes out =
+    cases (leb (length bytes) (length out))
+    (λ (t : leb (length bytes) (length out) ≡ true). simp t (drop-append-seam bytes (drop (length bytes) out)))
+    (λ (t : leb (length bytes) (length out) ≡ false). simp t)

@@ -23,7 +23,7 @@ use Rattle.crc.specs.Remainder.{productOn, product, IsRemainder}
 use Rattle.crc.proofs.Xor.{xor-assoc, xor-middle, xor-undo, xor-equal, xor-front, xor-double}
 use Rattle.crc.proofs.Bits.{below-append, bits-below}
 use Rattle.crc.proofs.Linear.{G, zero-lt-two, step-lt}
-use Rattle.crc.proofs.Steps.{p7, p16}
+use Rattle.crc.proofs.Steps.{low7, p7, low16, p16}
 
 -- the quotient of the division by g, whose degree is n, where s is left so far
 abbrev pub quotient : (n g : ℕ) → ℕ → List ℕ → List Bool
@@ -144,8 +144,8 @@ module _ (n p : ℕ) (hp : p < 2 ^ n) where
 
 pub crc7-remainder : (bytes : List ℕ) → IsRemainder 7 generator7 (bits bytes ++ replicate 7 0) (crc7 bytes)
 unfolding crc7 checkSum
-crc7-remainder bytes = the-remainder 7 9 p7 (bits bytes) (bits-below bytes)
+crc7-remainder bytes = the-remainder 7 low7 p7 (bits bytes) (bits-below bytes)
 
 pub crc16-remainder : (bytes : List ℕ) → IsRemainder 16 generator16 (bits bytes ++ replicate 16 0) (crc16 bytes)
 unfolding crc16 checkSum
-crc16-remainder bytes = the-remainder 16 4129 p16 (bits bytes) (bits-below bytes)
+crc16-remainder bytes = the-remainder 16 low16 p16 (bits bytes) (bits-below bytes)

@@ -21,7 +21,7 @@ use Rattle.crc.specs.Crc.{remainder, checkSum, generator16, crc16}
 use Rattle.crc.specs.Flip.{flip}
 use Rattle.crc.proofs.Bits.{below-drop, bits-below, bits-octets, bits-take, bits-drop, onward-bits, length-bits, length-octets, octets-below}
 use Rattle.crc.proofs.Flips.{flip-below, flip-found}
-use Rattle.crc.proofs.Steps.{p16, crc16-lt}
+use Rattle.crc.proofs.Steps.{low16, p16}
 use Rattle.wire.specs.Blocks.{longest, blockOf, carried, told, checkedOf}
 use Rattle.wire.specs.Flipped.{flipped}
 use Rattle.wire.specs.declared.Checked.{Checked}
@@ -146,7 +146,7 @@ flip-refused b bb n e k hk =
     let low = g .low in
     let high = g .high in
     let wrong : told c ≡ crc16 (carried c) → ⊥ = λ (f : told c ≡ crc16 (carried c)).
-    flip-found 16 4129 p16 refl m k w (bits-below b) (lw ∙ omega arith) (omega arith)
+    flip-found 16 low16 p16 refl m k w (bits-below b) (lw ∙ omega arith) (omega arith)
     (subst (λ (P : Type 0). P) (rule b bb (omega arith)) (g .crc))
     (subst (λ (l : List ℕ). spelt (drop m l) ≡ remainder 16 generator16 (take m l)) bc
     (subst (λ (j : ℕ). spelt (drop ((j - 2) * 8) (bits c)) ≡ remainder 16 generator16 (take ((j - 2) * 8) (bits c))) lc

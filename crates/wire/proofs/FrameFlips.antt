@@ -19,7 +19,7 @@ use Rattle.crc.specs.Crc.{remainder, generator7}
 use Rattle.crc.specs.Flip.{flip}
 use Rattle.crc.proofs.Bits.{below-take, bits-below, bits-octets, length-bits, length-octets}
 use Rattle.crc.proofs.Flips.{flip-below, flip-found}
-use Rattle.crc.proofs.Steps.{p7}
+use Rattle.crc.proofs.Steps.{low7, p7}
 use Rattle.wire.specs.Flipped.{flipped, framingBit}
 use Rattle.wire.specs.Frames.{crc7Of, field, sentOf, framingOf, checked, frameOf}
 use Rattle.wire.specs.declared.Frame.{Frame}
@@ -79,7 +79,7 @@ module _ (w : List ℕ) (i a : ℕ) (s : Sent w i a) (b : Below 2 w) (n : length
   wrong : k < 47 → field (flip k w) 40 7 ≡ crc7Of (take 40 (flip k w)) → ⊥
   unfolding crc7Of
   wrong h e =
-      flip-found 7 9 p7 refl 40 k (take 47 w) (below-take 2 47 w b) (length-take-le 47 w (omega arith)) h
+      flip-found 7 low7 p7 refl 40 k (take 47 w) (below-take 2 47 w b) (length-take-le 47 w (omega arith)) h
       (subst (λ (P : Type 0). P) (crc-of w) (s .crc))
       (subst (λ (v : List ℕ). spelt (drop 40 v) ≡ remainder 7 generator7 (take 40 v)) (first-47 h) (subst (λ (P : Type 0). P) (crc-of (flip k w)) e))
 

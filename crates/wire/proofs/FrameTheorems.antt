@@ -19,7 +19,7 @@ use Rattle.base.specs.declared.Refusal.{Refusal}
 use Rattle.crc.specs.Bits.{bitsOf, bits, spelt, octets, Below}
 use Rattle.crc.proofs.Bits.{below-append, below-take, below-drop, bitsOf-below, bits-below, length-bits, bitsOf-spelt, bits-octets, octets-bits, spelt-bitsOf, spelt-lt}
 use Rattle.crc.proofs.Remainder.{the-remainder}
-use Rattle.crc.proofs.Steps.{p7}
+use Rattle.crc.proofs.Steps.{low7, p7}
 use Rattle.wire.specs.Frames.{crc7Of, sealed, commandFrame, field, sentOf, framingOf, checked, frameOf}
 use Rattle.wire.specs.declared.Frame.{Frame}
 use Rattle.wire.specs.declared.Frame.the-variants.{Command, Refused}
@@ -44,7 +44,7 @@ command-bits i a =
 
 crc7-small : (l : List ℕ) → Below 2 l → crc7Of l < 128
 unfolding crc7Of
-crc7-small l b = the-remainder 7 9 p7 l b .lower
+crc7-small l b = the-remainder 7 low7 p7 l b .lower
 
 -- they are framed, and their CRC7 is right
 sent-command : (i a : ℕ) → i < 64 → a < 2 ^ 32 → sentOf (commandBits i a) ≡ Framed i a true

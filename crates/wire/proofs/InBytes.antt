@@ -149,15 +149,26 @@ word-spelt a b c d ha hb hc hd =
 abbrev pub r3Bytes : ℕ → List ℕ
 r3Bytes x = 0x3F ∷ (128 + x / 16777216 % 128) ∷ x / 65536 % 256 ∷ x / 256 % 256 ∷ x % 256 ∷ 0xFF ∷ []
 
-pub r3-bytes : (r : R3) → r3Frame r ≡ r3Bytes (r .ocr)
-unfolding r3Frame
-r3-bytes r =
-    let x : ℕ = r .ocr in
-    let v : ℕ = 2147483648 + x % 2147483648 in
-    let e : _≡_ {A = List ℕ} (1 ∷ bitsOf 31 x) (bitsOf 32 v) = sym (ap₂ (λ (b : ℕ) (l : List ℕ). b ∷ l) {x = v / 2147483648 % 2} {y = 1} (omega arith) (sym (bitsOf-low 31 v) ∙ ap (bitsOf 31) {x = v % 2147483648} {y = x % 2147483648} (omega arith) ∙ bitsOf-low 31 x)) in
+-- with the highest of 32 bits set
+top-bits : (x v : ℕ) → v ≡ 2147483648 + x % 2147483648 → 1 ∷ bitsOf 31 x ≡ bits (bytes4 v)
+top-bits x v e =
+    let top : v / 2147483648 % 2 ≡ 1 = omega arith in
+    let rest : v % 2147483648 ≡ x % 2147483648 = omega arith in
+    sym (ap₂ (λ (b : ℕ) (l : List ℕ). b ∷ l) top (sym (bitsOf-low 31 v) ∙ ap (bitsOf 31) rest ∙ bitsOf-low 31 x)) ∙ word-bits v
+
+top-bytes : (x v : ℕ) → v ≡ 2147483648 + x % 2147483648 → 0x3F ∷ bytes4 v ++ (0xFF ∷ []) ≡ r3Bytes x
+top-bytes x v e =
     let e1 : v / 16777216 ≡ 128 + x / 16777216 % 128 = omega arith in
     let e2 : v / 65536 % 256 ≡ x / 65536 % 256 = omega arith in
     let e3 : v / 256 % 256 ≡ x / 256 % 256 = omega arith in
     let e4 : v % 256 ≡ x % 256 = omega arith in
-    ap (λ (l : List ℕ). 0x3F ∷ octets 4 l ++ (0xFF ∷ [])) (e ∙ word-bits v)
-    ∙ ap (λ (l : List ℕ). 0x3F ∷ l ++ (0xFF ∷ [])) (octets-bits (bytes4 v) (omega arith, (omega arith, (omega arith, (omega arith, tt)))) ∙ λ k. e1 k ∷ e2 k ∷ e3 k ∷ e4 k ∷ [])
+    λ k. 0x3F ∷ e1 k ∷ e2 k ∷ e3 k ∷ e4 k ∷ 0xFF ∷ []
+
+laid-top : (x v : ℕ) → v ≡ 2147483648 + x % 2147483648 → octets 4 (1 ∷ bitsOf 31 x) ≡ bytes4 v
+laid-top x v e = ap (octets 4) (top-bits x v e) ∙ octets-bits (bytes4 v) (omega arith, (omega arith, (omega arith, (omega arith, tt))))
+
+pub r3-bytes : (r : R3) → r3Frame r ≡ r3Bytes (r .ocr)
+unfolding r3Frame
+r3-bytes r =
+    ap (λ (l : List ℕ). 0x3F ∷ l ++ (0xFF ∷ [])) (laid-top (r .ocr) (2147483648 + r .ocr % 2147483648) refl)
+    ∙ top-bytes (r .ocr) (2147483648 + r .ocr % 2147483648) refl

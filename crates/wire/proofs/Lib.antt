@@ -3,3 +3,4 @@ pub mod FrameFlips
 pub mod FrameTheorems
 pub mod InBytes
 pub mod Writing
+pub mod WrongAnswers

@@ -1,0 +1,70 @@
+-- Wrong answers that the promises rule out, each refuted at a sample that antt computes: a call's answer is the definition, so a call
+-- that gave the wrong answer would make the two equal. (Others are tried as must-fail edits; docs/PROMISES.md lists both.)
+--   r1-as-a-command       an R1 with the transmission bit of a command
+--   r1-index-64           an R1 with an index of 7 bits
+--   r3-bit-31-clear       an R3 that shows the OCR as it is
+--   r3-with-a-crc         an R3 closed by its CRC7
+--   last-without-end-bit  a register closed by its CRC7 and a 0
+--   last-unmoved          a register closed by a 1 and its CRC7
+--   every-register        a check that takes every register for right
+--   every-block           a check that takes every block of a good length
+--   length-of-the-block   a check that tells the length of the block and not of its payload
+-- Assumes nothing.
+use mathlib.Core.Path.{_≡_, ap}
+use mathlib.Core.Bool.{true}
+use mathlib.Core.List.{List, [], _∷_, _++_}
+use Prim.Native.Nat.{ℕ, _+_, _*_}
+use native.Mathlib.Omega.{arith}
+use lib.ListN.{length, getD, replicate}
+use Rattle.base.specs.declared.Written.{Written}
+use Rattle.base.specs.declared.Written.the-variants.{Bytes}
+use Rattle.crc.specs.Bits.{bitsOf, bits, octets}
+use Rattle.crc.specs.Crc.{divide, remainder, checkSum, crc7, crc16}
+use Rattle.wire.specs.Blocks.{blockOf, checkedOf}
+use Rattle.wire.specs.Frames.{crc7Of, sealed, commandFrame, indexed}
+use Rattle.wire.specs.Responses.{r1Frame, r3Frame, lastByte, registerRight}
+use Rattle.wire.specs.declared.Checked.{Checked}
+use Rattle.wire.specs.declared.Checked.the-variants.{Payload, Refused}
+use Rattle.wire.specs.declared.R1.{R1}
+use Rattle.wire.specs.declared.R3.{R3}
+
+abbrev a1 : R1
+a1 = record { index = 16; status = 0x00000900 }
+
+abbrev a3 : R3
+a3 = record { ocr = 0x00FF8000 }
+
+r1-as-a-command : r1Frame a1 ≡ commandFrame 16 0x00000900 → ⊥
+unfolding r1Frame commandFrame sealed crc7Of remainder divide
+r1-as-a-command e = let z : _≡_ {A = ℕ} 0x10 0x50 = ap (λ (l : List ℕ). getD l 0 0) e in omega arith
+
+r1-index-64 : indexed 64 (r1Frame a1) (replicate 6 0) ≡ Bytes 6 → ⊥
+r1-index-64 e = let z : _≡_ {A = ℕ} 0 1 = cc in omega arith
+
+r3-bit-31-clear : r3Frame a3 ≡ 0x3F ∷ octets 4 (bitsOf 32 0x00FF8000) ++ (0xFF ∷ []) → ⊥
+unfolding r3Frame
+r3-bit-31-clear e = let z : _≡_ {A = ℕ} 0x80 0x00 = ap (λ (l : List ℕ). getD l 1 0) e in omega arith
+
+r3-with-a-crc : r3Frame a3 ≡ octets 6 (sealed (bits (0x3F ∷ 0x80 ∷ 0xFF ∷ 0x80 ∷ 0x00 ∷ []))) → ⊥
+unfolding r3Frame sealed crc7Of remainder divide bits
+r3-with-a-crc e = let z : _≡_ {A = ℕ} 0xFF 0xF1 = ap (λ (l : List ℕ). getD l 5 0) e in omega arith
+
+last-without-end-bit : lastByte (replicate 15 0) ≡ crc7 (replicate 15 0) * 2 → ⊥
+unfolding lastByte crc7 checkSum crc7Of remainder divide bits
+last-without-end-bit e = omega (arith, e)
+
+last-unmoved : lastByte (1 ∷ []) ≡ 128 + crc7 (1 ∷ []) → ⊥
+unfolding lastByte crc7 checkSum crc7Of remainder divide bits
+last-unmoved e = omega (arith, e)
+
+every-register : registerRight (replicate 16 0) ≡ true → ⊥
+unfolding registerRight lastByte crc7Of remainder divide bits
+every-register e = let z : _≡_ {A = ℕ} 0 1 = cc in omega arith
+
+every-block : checkedOf (0x80 ∷ 0x91 ∷ 0x89 ∷ []) ≡ Payload 1 → ⊥
+unfolding checkedOf crc16 checkSum remainder divide bits
+every-block e = let z : _≡_ {A = ℕ} 0 1 = cc in omega arith
+
+length-of-the-block : checkedOf (0x80 ∷ 0x91 ∷ 0x88 ∷ []) ≡ Payload 3 → ⊥
+unfolding checkedOf crc16 checkSum remainder divide bits
+length-of-the-block e = let z : _≡_ {A = ℕ} 1 3 = cc in omega arith
