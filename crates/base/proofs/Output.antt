@@ -14,7 +14,6 @@ use lib.Dec.{leb}
 use lib.ListN.{length, drop}
 use lib.Seq.{drop-append-seam}
 use Rattle.base.proofs.Cases.{cases}
-use Rattle.base.specs.Choice.{pick}
 use Rattle.base.specs.Output.{fits, laid}
 use Rattle.base.specs.Refusals.{by}
 use Rattle.base.specs.declared.Written.{Written}

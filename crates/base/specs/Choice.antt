@@ -1,4 +1,4 @@
--- Choice by a test, as every rule of document 01 that has an order of tests is written.
+-- Choice by a test, and an order of refusals, as the rules of document 01 are written.
 -- Assumes nothing.
 use mathlib.Core.Bool.{Bool, true, false}
 
@@ -6,3 +6,8 @@ use mathlib.Core.Bool.{Bool, true, false}
 abbrev pub pick : {A : Type 0} → Bool → A → A → A
 pick true a b = a
 pick false a b = b
+
+-- an order of refusals, from the top: the refusal unless the test holds, and else what comes after it
+abbrev pub unless : {A : Type 0} → Bool → A → A → A
+unless true refusal rest = rest
+unless false refusal rest = refusal

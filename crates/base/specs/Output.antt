@@ -4,14 +4,14 @@ use mathlib.Core.List.{List, _++_}
 use Prim.Native.Nat.{ℕ}
 use lib.Dec.{leb}
 use lib.ListN.{length, drop}
-use Rattle.base.specs.Choice.{pick}
+use Rattle.base.specs.Choice.{unless}
 use Rattle.base.specs.Refusals.{by}
 use Rattle.base.specs.declared.Written.{Written}
 use Rattle.base.specs.declared.Written.the-variants.{Bytes, Refused}
 
 -- 6: the lent output is too short for the bytes
 abbrev pub fits : List ℕ → List ℕ → Written
-fits bytes out = pick (leb (length bytes) (length out)) (Bytes (length bytes)) (Refused (by 6))
+fits bytes out = unless (leb (length bytes) (length out)) (Refused (by 6)) (Bytes (length bytes))
 
 -- "Output past the answer's end is never written", and a refusal changes nothing in it
 abbrev pub laid : Written → List ℕ → List ℕ → List ℕ

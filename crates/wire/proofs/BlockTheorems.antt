@@ -13,9 +13,10 @@ use borrow.Author.Tests.{eq-eqb, ne-eqb, le-leb, eqb-true, leb-true}
 use lib.Dec.{eqb, leb}
 use lib.ListN.{length, take, drop, getD, length-append, length-drop, length-set, take-append-drop}
 use lib.Seq.{getD-append-add, getD-drop, take-append-seam, length-take-le}
-use Rattle.base.specs.Choice.{pick}
+use Rattle.base.specs.Choice.{unless}
 use Rattle.base.specs.Refusals.{by}
 use Rattle.base.specs.declared.Refusal.{Refusal}
+use Rattle.base.proofs.Cases.{passed}
 use Rattle.crc.specs.Bits.{bits, spelt, octets, Below}
 use Rattle.crc.specs.Crc.{remainder, checkSum, generator16, crc16}
 use Rattle.crc.specs.Flip.{flip}
@@ -30,13 +31,12 @@ use Rattle.wire.specs.declared.Checked.the-variants.{Payload, Refused}
 -- ---- by the tests of the rule
 -- a block of a good length is judged by its CRC16 alone
 judged : (b : List ℕ) → 3 ≤ length b → length b ≤ 2050
-    → checkedOf b ≡ pick (eqb (told b) (crc16 (carried b))) (Payload (length b - 2)) (Refused (by 17))
+    → checkedOf b ≡ unless (eqb (told b) (crc16 (carried b))) (Refused (by 17)) (Payload (length b - 2))
 unfolding checkedOf
 judged b lo hi = simp (le-leb 3 (length b) lo, le-leb (length b) 2050 hi)
 
-took : (t : Bool) (x : Checked) (r : Refusal) (n : ℕ) → pick t x (Refused r) ≡ Payload n → (t ≡ true) × (x ≡ Payload n)
-took true x r n e = (refl, e)
-took false x r n e = let z : _≡_ {A = ℕ} 0 1 = cc in absurd (omega arith)
+no-refusal : (r : Refusal) (n : ℕ) → _≡_ {A = Checked} (Refused r) (Payload n) → ⊥
+no-refusal r n e = let z : _≡_ {A = ℕ} 0 1 = cc in omega arith
 
 pub record Good (b : List ℕ) (n : ℕ) : Type 0 where
   pub low : 3 ≤ length b
@@ -47,9 +47,9 @@ pub record Good (b : List ℕ) (n : ℕ) : Type 0 where
 good : (b : List ℕ) (n : ℕ) → checkedOf b ≡ Payload n → Good b n
 unfolding checkedOf
 good b n e =
-    let t0 = took (leb 3 (length b)) _ (by 5) n e in
-    let t1 = took (leb (length b) (longest + 2)) _ (by 5) n (t0 .1) in
-    let t2 = took (eqb (told b) (crc16 (carried b))) _ (by 17) n (t1 .1) in
+    let t0 = passed (leb 3 (length b)) (Refused (by 5)) _ (Payload n) (no-refusal (by 5) n) e in
+    let t1 = passed (leb (length b) (longest + 2)) (Refused (by 5)) _ (Payload n) (no-refusal (by 5) n) (t0 .1) in
+    let t2 = passed (eqb (told b) (crc16 (carried b))) (Refused (by 17)) _ (Payload n) (no-refusal (by 17) n) (t1 .1) in
     let last : _≡_ {A = Checked} (Payload (length b - 2)) (Payload n) = t2 .1 in
     record {
       low = leb-true 3 (length b) (t0 .0);

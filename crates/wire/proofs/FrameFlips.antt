@@ -11,7 +11,7 @@ use borrow.Author.Tests.{eq-eqb, ne-eqb, eqb-true, eqb-false}
 use lib.Dec.{eqb}
 use lib.ListN.{length, take, drop, getD, set, length-set}
 use lib.Seq.{drop-cons, getD-set-same, getD-set-other, getD-take, take-nil, take-set-lt, take-take, length-take-le}
-use Rattle.base.specs.Choice.{pick}
+use Rattle.base.specs.Choice.{pick, unless}
 use Rattle.base.specs.Refusals.{by}
 use Rattle.base.proofs.Cases.{cases}
 use Rattle.crc.specs.Bits.{bits, spelt, octets, Below}
@@ -110,5 +110,5 @@ flip-refused f i a e k hk =
     let n48 : length w ≡ 48 = n ∙ ap (λ (m : ℕ). m * 8) (r .0) in
     let six : length (flipped k f) ≡ 6 = length-octets (length f) (flip k w) ∙ r .0 in
     let is : bits (flipped k f) ≡ flip k w = bits-octets (length f) (flip k w) (length-set w k (1 - getD w k 0) ∙ n) (flip-below k w b) in
-    ap₂ (λ (t : Bool) (v : List ℕ). checked (pick t (sentOf v) (Unframed (by 1)))) (eq-eqb (length (flipped k f)) 6 six) is
+    ap₂ (λ (t : Bool) (v : List ℕ). checked (unless t (Unframed (by 1)) (sentOf v))) (eq-eqb (length (flipped k f)) 6 six) is
     ∙ flip-sent w i a (r .1) b n48 k hk

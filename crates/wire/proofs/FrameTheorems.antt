@@ -13,9 +13,9 @@ use borrow.Author.Tests.{eq-eqb, ne-eqb, eqb-true}
 use lib.Dec.{eqb}
 use lib.ListN.{length, take, drop, getD, length-drop}
 use lib.Seq.{length-take-le}
-use Rattle.base.specs.Choice.{pick}
 use Rattle.base.specs.Refusals.{by}
 use Rattle.base.specs.declared.Refusal.{Refusal}
+use Rattle.base.proofs.Cases.{passed}
 use Rattle.crc.specs.Bits.{bitsOf, bits, spelt, octets, Below}
 use Rattle.crc.proofs.Bits.{below-append, below-take, below-drop, bitsOf-below, bits-below, length-bits, bitsOf-spelt, bits-octets, octets-bits, spelt-bitsOf, spelt-lt}
 use Rattle.crc.proofs.Remainder.{the-remainder}
@@ -70,17 +70,15 @@ pub record Sent (w : List ℕ) (i a : ℕ) : Type 0 where
   pub argument : field w 8 32 ≡ a
   pub crc : field w 40 7 ≡ crc7Of (take 40 w)
 
--- a test that leads to what is framed was true
-took : (t : Bool) (x : Framing) (r : Refusal) (i a : ℕ) → pick t x (Unframed r) ≡ Framed i a true → (t ≡ true) × (x ≡ Framed i a true)
-took true x r i a e = (refl, e)
-took false x r i a e = let z : _≡_ {A = ℕ} 0 1 = cc in absurd (omega arith)
+no-refusal : (r : Refusal) (i a : ℕ) → _≡_ {A = Framing} (Unframed r) (Framed i a true) → ⊥
+no-refusal r i a e = let z : _≡_ {A = ℕ} 0 1 = cc in omega arith
 
 sent : (w : List ℕ) (i a : ℕ) → sentOf w ≡ Framed i a true → Sent w i a
 unfolding sentOf
 sent w i a e =
-    let t0 = took (eqb (field w 0 1) 0) _ (by 2) i a e in
-    let t1 = took (eqb (field w 1 1) 1) _ (by 2) i a (t0 .1) in
-    let t2 = took (eqb (field w 47 1) 1) _ (by 2) i a (t1 .1) in
+    let t0 = passed (eqb (field w 0 1) 0) (Unframed (by 2)) _ (Framed i a true) (no-refusal (by 2) i a) e in
+    let t1 = passed (eqb (field w 1 1) 1) (Unframed (by 2)) _ (Framed i a true) (no-refusal (by 2) i a) (t0 .1) in
+    let t2 = passed (eqb (field w 47 1) 1) (Unframed (by 2)) _ (Framed i a true) (no-refusal (by 2) i a) (t1 .1) in
     let last : _≡_ {A = Framing} (Framed (field w 2 6) (field w 8 32) (eqb (field w 40 7) (crc7Of (take 40 w)))) (Framed i a true) = t2 .1 in
     record {
       start = eqb-true (field w 0 1) 0 (t0 .0);
@@ -99,7 +97,7 @@ judged (Unframed r) i a e = let z : _≡_ {A = ℕ} 0 1 = cc in absurd (omega ar
 pub read : (f : List ℕ) (i a : ℕ) → frameOf f ≡ Command i a → (length f ≡ 6) × Sent (bits f) i a
 unfolding frameOf framingOf
 read f i a e =
-    let t = took (eqb (length f) 6) (sentOf (bits f)) (by 1) i a (judged (framingOf f) i a e) in
+    let t = passed (eqb (length f) 6) (Unframed (by 1)) (sentOf (bits f)) (Framed i a true) (no-refusal (by 1) i a) (judged (framingOf f) i a e) in
     (eqb-true (length f) 6 (t .0), sent (bits f) i a (t .1))
 
 -- ---- any frame that is read is the one that the writer gives

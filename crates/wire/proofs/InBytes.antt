@@ -17,7 +17,7 @@ use native.Mathlib.Omega.{arith}
 use lib.Dec.{eqb}
 use borrow.Author.Tests.{eq-eqb}
 use lib.ListN.{length, getD, take, drop}
-use Rattle.base.specs.Choice.{pick}
+use Rattle.base.specs.Choice.{unless}
 use Rattle.base.specs.Refusals.{by}
 use Rattle.crc.specs.Bits.{bitsOf, bits, spelt, octets, Below}
 use Rattle.crc.specs.Crc.{checkSum, remainder, crc7}
@@ -94,13 +94,10 @@ six-bytes (b0 ∷ b1 ∷ b2 ∷ b3 ∷ b4 ∷ b5 ∷ b6 ∷ f) e = absurd (omega
 -- what framingOf says of six bytes
 abbrev byBytes : (b0 b1 b2 b3 b4 b5 : ℕ) → Framing
 byBytes b0 b1 b2 b3 b4 b5 =
-    pick (eqb (b0 / 128) 0)
-    (pick (eqb (b0 / 64 % 2) 1)
-    (pick (eqb (b5 % 2) 1)
-    (Framed (b0 % 64) (spelt (bits (b1 ∷ b2 ∷ b3 ∷ b4 ∷ []))) (eqb (b5 / 2) (crc7 (b0 ∷ b1 ∷ b2 ∷ b3 ∷ b4 ∷ []))))
-    (Unframed (by 2)))
-    (Unframed (by 2)))
-    (Unframed (by 2))
+    unless (eqb (b0 / 128) 0) (Unframed (by 2))
+    (unless (eqb (b0 / 64 % 2) 1) (Unframed (by 2))
+    (unless (eqb (b5 % 2) 1) (Unframed (by 2))
+    (Framed (b0 % 64) (spelt (bits (b1 ∷ b2 ∷ b3 ∷ b4 ∷ []))) (eqb (b5 / 2) (crc7 (b0 ∷ b1 ∷ b2 ∷ b3 ∷ b4 ∷ []))))))
 
 six : (b0 b1 b2 b3 b4 b5 : ℕ) → b0 < 256 → b5 < 256 → framingOf (b0 ∷ b1 ∷ b2 ∷ b3 ∷ b4 ∷ b5 ∷ []) ≡ byBytes b0 b1 b2 b3 b4 b5
 unfolding framingOf sentOf bits
@@ -124,7 +121,7 @@ abbrev pub meaning : List ℕ → ℕ → ℕ → Framing
 meaning f argument crc = Framed (getD f 0 0 % 64) argument (eqb (getD f 5 0 / 2) crc)
 
 good : (b0 b5 : ℕ) (x : Framing) → b0 / 128 ≡ 0 → b0 / 64 % 2 ≡ 1 → b5 % 2 ≡ 1
-    → pick (eqb (b0 / 128) 0) (pick (eqb (b0 / 64 % 2) 1) (pick (eqb (b5 % 2) 1) x (Unframed (by 2))) (Unframed (by 2))) (Unframed (by 2)) ≡ x
+    → unless (eqb (b0 / 128) 0) (Unframed (by 2)) (unless (eqb (b0 / 64 % 2) 1) (Unframed (by 2)) (unless (eqb (b5 % 2) 1) (Unframed (by 2)) x)) ≡ x
 good b0 b5 x e0 e1 e5 = simp (eq-eqb (b0 / 128) 0 e0, eq-eqb (b0 / 64 % 2) 1 e1, eq-eqb (b5 % 2) 1 e5)
 
 pub framing-good : (f : List ℕ) → length f ≡ 6 → ((k : ℕ) → getD f k 0 < 256) → getD f 0 0 / 128 ≡ 0 → getD f 0 0 / 64 % 2 ≡ 1 → getD f 5 0 % 2 ≡ 1

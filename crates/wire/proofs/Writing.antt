@@ -8,7 +8,7 @@ use Prim.Native.Nat.{ℕ, _+_, _*_, _≤_, _<_}
 use native.Mathlib.Omega.{arith}
 use borrow.Author.Tests.{le-leb}
 use lib.ListN.{length, drop}
-use Rattle.base.specs.Choice.{pick}
+use Rattle.base.specs.Choice.{unless}
 use Rattle.base.specs.Output.{fits, laid}
 use Rattle.base.specs.Refusals.{by}
 use Rattle.base.specs.declared.Written.the-variants.{Bytes, Refused}
@@ -28,4 +28,4 @@ framed t i w first out last ht hi ho ef el =
     let f : List ℕ = framed48 t i w in
     let e : bitsOf 8 first ≡ 0 ∷ t ∷ bitsOf 6 i = ap (bitsOf 8) ef ∙ first-bits t i ht (omega arith) in
     let o = written f out 6 refl last ho (el ∙ ap (λ (l : List ℕ). octets 6 (sealed (l ++ bitsOf 32 w)) ++ drop 6 out) e) in
-    (o .0 ∙ sym (ap (λ (b : Bool). pick b (fits f out) (Refused (by 4))) (le-leb i 63 hi)), o .1)
+    (o .0 ∙ sym (ap (λ (b : Bool). unless b (Refused (by 4)) (fits f out)) (le-leb i 63 hi)), o .1)

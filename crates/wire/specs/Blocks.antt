@@ -5,7 +5,7 @@ use mathlib.Core.List.{List, [], _∷_, _++_}
 use Prim.Native.Nat.{ℕ, _+_, _-_, _*_, _/_, _%_}
 use lib.Dec.{eqb, leb}
 use lib.ListN.{length, getD, take}
-use Rattle.base.specs.Choice.{pick}
+use Rattle.base.specs.Choice.{unless}
 use Rattle.base.specs.Output.{fits}
 use Rattle.base.specs.Refusals.{by}
 use Rattle.base.specs.declared.Written.{Written}
@@ -25,7 +25,7 @@ blockOf payload = payload ++ (crc16 payload / 256 ∷ crc16 payload % 256 ∷ []
 -- "Writing a block: 5, 6"
 unfoldable pub blockWritten : List ℕ → List ℕ → Written
 blockWritten payload out =
-    pick (leb 1 (length payload)) (pick (leb (length payload) longest) (fits (blockOf payload) out) (NotWritten (by 5))) (NotWritten (by 5))
+    unless (leb 1 (length payload)) (NotWritten (by 5)) (unless (leb (length payload) longest) (NotWritten (by 5)) (fits (blockOf payload) out))
 
 -- what a checked block carries, and the CRC16 that it tells
 abbrev pub carried : List ℕ → List ℕ
@@ -37,8 +37,6 @@ told block = getD block (length block - 2) 0 * 256 + getD block (length block - 
 -- "Checking one: 5, 17": a good block is told by the length of its payload
 unfoldable pub checkedOf : List ℕ → Checked
 checkedOf block =
-    pick (leb 3 (length block))
-    (pick (leb (length block) (longest + 2))
-    (pick (eqb (told block) (crc16 (carried block))) (Payload (length block - 2)) (Refused (by 17)))
-    (Refused (by 5)))
-    (Refused (by 5))
+    unless (leb 3 (length block)) (Refused (by 5))
+    (unless (leb (length block) (longest + 2)) (Refused (by 5))
+    (unless (eqb (told block) (crc16 (carried block))) (Refused (by 17)) (Payload (length block - 2))))

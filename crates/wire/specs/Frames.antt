@@ -5,7 +5,7 @@ use mathlib.Core.List.{List, [], _∷_, _++_}
 use Prim.Native.Nat.{ℕ}
 use lib.Dec.{eqb, leb}
 use lib.ListN.{length, take, drop}
-use Rattle.base.specs.Choice.{pick}
+use Rattle.base.specs.Choice.{unless}
 use Rattle.base.specs.Output.{fits}
 use Rattle.base.specs.Refusals.{by}
 use Rattle.base.specs.declared.Written.{Written}
@@ -31,7 +31,7 @@ commandFrame index argument = octets 6 (sealed (0 ∷ 1 ∷ bitsOf 6 index ++ bi
 
 -- "Writing a frame: 4, 6": the index to write has 6 bits, and the frame fits the lent output
 abbrev pub indexed : ℕ → List ℕ → List ℕ → Written
-indexed index frame out = pick (leb index 63) (fits frame out) (NotWritten (by 4))
+indexed index frame out = unless (leb index 63) (NotWritten (by 4)) (fits frame out)
 
 -- the number in the w bits that come after the first k
 abbrev pub field : List ℕ → ℕ → ℕ → ℕ
@@ -41,21 +41,18 @@ field sent k w = spelt (take w (drop k sent))
 -- Bits that are framed so have an index, an argument, and a CRC7 that is right or wrong.
 unfoldable pub sentOf : List ℕ → Framing
 sentOf sent =
-    pick (eqb (field sent 0 1) 0)
-    (pick (eqb (field sent 1 1) 1)
-    (pick (eqb (field sent 47 1) 1)
-    (Framed (field sent 2 6) (field sent 8 32) (eqb (field sent 40 7) (crc7Of (take 40 sent))))
-    (Unframed (by 2)))
-    (Unframed (by 2)))
-    (Unframed (by 2))
+    unless (eqb (field sent 0 1) 0) (Unframed (by 2))
+    (unless (eqb (field sent 1 1) 1) (Unframed (by 2))
+    (unless (eqb (field sent 47 1) 1) (Unframed (by 2))
+    (Framed (field sent 2 6) (field sent 8 32) (eqb (field sent 40 7) (crc7Of (take 40 sent))))))
 
 -- 1: a frame is 6 bytes
 unfoldable pub framingOf : List ℕ → Framing
-framingOf frame = pick (eqb (length frame) 6) (sentOf (bits frame)) (Unframed (by 1))
+framingOf frame = unless (eqb (length frame) 6) (Unframed (by 1)) (sentOf (bits frame))
 
 -- 3: the CRC7 is right
 abbrev pub checked : Framing → Frame
-checked (Framed index argument right) = pick right (Command index argument) (Refused (by 3))
+checked (Framed index argument right) = unless right (Refused (by 3)) (Command index argument)
 checked (Unframed refusal) = Refused refusal
 
 -- "Frame: 1, 2, 3"
