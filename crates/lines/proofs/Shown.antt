@@ -1,4 +1,5 @@
--- What the definitions of text give, computed: no leading zero, one digit for 0, and room for the largest 64-bit number.
+-- What the definitions of text give, computed: no leading zero, one digit for 0, and room for the largest 64-bit number. So a call that
+-- wrote lower-case letters (`bytes`), nothing for 0 (`none`) or a leading zero (`hundred`) would not meet its contract.
 -- Assumes nothing.
 use mathlib.Core.Path.{_≡_, refl}
 use mathlib.Core.List.{[], _∷_}

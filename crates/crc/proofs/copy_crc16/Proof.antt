@@ -9,9 +9,10 @@ use borrow.Author.Tests.{le-leb, lt-leb}
 use denote.Ref.{now}
 use lib.Bits.{bitXor}
 use lib.ListN.{length, take, drop, getD, set, length-set}
+use Rattle.base.proofs.Copy.{copy-turn, copy-all}
 use Rattle.crc.specs.Bits.{bits}
 use Rattle.crc.specs.Crc.{divide, remainder, checkSum, crc16}
-use Rattle.crc.proofs.Fold.{turn, whole, copy-turn, copy-all}
+use Rattle.crc.proofs.Fold.{turn, whole}
 use Rattle.crc.proofs.Steps.{crc16-step}
 use Rattle.crc.proofs.copy_crc16.Statement.{statement}
 use Rattle.crc.proofs.copy_crc16.Tie as tie

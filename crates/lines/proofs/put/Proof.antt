@@ -3,13 +3,11 @@
 use mathlib.Core.Path.{_≡_, refl, sym, ap, _∙_}
 use mathlib.Core.List.{List, _++_}
 use Prim.Native.Nat.{ℕ, _≤_, _-_}
-use native.Mathlib.Nat.{zero-add}
-use native.Mathlib.Numerals.{add-one}
 use native.Mathlib.Omega.{arith}
 use borrow.Author.Needs.{needs}
 use denote.Ref.{now}
 use lib.ListN.{length, take, drop, getD, set, length-set}
-use lib.Seq.{paste-suc, take-all}
+use Rattle.base.proofs.Copy.{copy-turn, copy-all}
 use Rattle.base.proofs.Output.{short, written}
 use Rattle.lines.proofs.put.Statement.{statement}
 use Rattle.lines.proofs.put.Tie as tie
@@ -35,9 +33,7 @@ loop-again c =
     let s = now (a .bytes) in (
       search needs,
       length-set (l .out) (l .i) (getD s (l .i) 0) ∙ l .inv .1,
-      ap (λ (m : List ℕ). set m (l .i) (getD s (l .i) 0)) (l .inv .2)
-          ∙ simp zero-add at (paste-suc (now (a .out)) 0 s (l .i) 0 (omega arith) (omega arith))
-          ∙ ap (λ (k : ℕ). take k s ++ drop k (now (a .out))) (sym (add-one (l .i))),
+      ap (λ (m : List ℕ). set m (l .i) (getD s (l .i) 0)) (l .inv .2) ∙ copy-turn s (now (a .out)) (l .i) (omega arith) (omega arith),
     )
 
 returns-2 : tie.Need-returns-2 Inv-loop μ-loop
@@ -45,9 +41,9 @@ returns-2 c =
     let l = c .before .loop in
     let a = c .before .before .before .args in
     let s = now (a .bytes) in
-    let n : length s ≡ l .i = omega arith in
-    written s (now (a .out)) (l .i) n (l .out) (omega arith)
-    (l .inv .2 ∙ ap (λ (x : List ℕ). x ++ drop (l .i) (now (a .out))) (take-all (l .i) s (omega arith)))
+    let n : l .i ≡ length s = omega arith in
+    written s (now (a .out)) (l .i) (sym n) (l .out) (omega arith)
+    (l .inv .2 ∙ copy-all s (now (a .out)) (l .i) n ∙ ap (λ (k : ℕ). s ++ drop k (now (a .out))) (sym n))
 
 pub put-spec : {M : Type 1} → statement M
 put-spec =
