@@ -1,0 +1,130 @@
+/* The proved calls against the plain C ones, on the same inputs, before anything is measured. */
+#include "bench.h"
+
+static usize agreed;
+static u32 seed = 1;
+
+/* The same numbers on every machine. */
+static u32 next(void)
+{
+    seed = seed * 1103515245u + 12345u;
+    return seed >> 16 ^ seed << 16;
+}
+
+static void fill(u8 *bytes, usize length)
+{
+    for (usize i = 0; i < length; i++)
+        bytes[i] = (u8)next();
+}
+
+static void same(int equal, const char *what, const struct calls *theirs, long at)
+{
+    if (!equal) {
+        printf("DIFFERENT: %s, ours and %s, input %ld\n", what, theirs->name, at);
+        exit(1);
+    }
+    agreed++;
+}
+
+/* The check sum bit by bit, with no table, so that a fault in both tables would show. */
+static u32 by_bits(const u8 *bytes, usize length, int degree, u32 generator)
+{
+    u32 sum = 0;
+    for (usize i = 0; i < length; i++)
+        for (int bit = 7; bit >= 0; bit--) {
+            u32 top = (sum >> (degree - 1) ^ bytes[i] >> bit) & 1;
+            sum = sum << 1 & ((1u << degree) - 1);
+            if (top)
+                sum ^= generator;
+        }
+    return sum;
+}
+
+static void sums(const struct calls *ours, const struct calls *theirs)
+{
+    u8 bytes[2050];
+    fill(bytes, sizeof bytes);
+    for (usize n = 0; n <= sizeof bytes; n++) {
+        u8 seven = ours->crc7(bytes, n);
+        u16 sixteen = ours->crc16(bytes, n);
+        same(seven == theirs->crc7(bytes, n), "CRC7", theirs, (long)n);
+        same(sixteen == theirs->crc16(bytes, n), "CRC16", theirs, (long)n);
+        same(seven == by_bits(bytes, n, 7, 0x09), "CRC7 by bits", theirs, (long)n);
+        same(sixteen == by_bits(bytes, n, 16, 0x1021), "CRC16 by bits", theirs, (long)n);
+    }
+}
+
+static void read_one(const struct calls *ours, const struct calls *theirs, const u8 *frame, usize length)
+{
+    u8 i = 0xA5, j = 0xA5;
+    u32 a = 0x5A5A5A5A, b = 0x5A5A5A5A;
+    u8 r = ours->read_frame(frame, length, &i, &a), s = theirs->read_frame(frame, length, &j, &b);
+    same(r == s && i == j && a == b, "a frame read", theirs, (long)(frame[0] << 8 | length));
+}
+
+/* Every index with many arguments: whole, with each bit flipped, with each pair of neighbours flipped, and cut or lengthened. */
+static void frames(const struct calls *ours, const struct calls *theirs)
+{
+    u8 frame[9];
+    for (int index = 0; index < 64; index++)
+        for (int k = 0; k < 64; k++) {
+            u32 argument = k == 0 ? 0 : k == 1 ? 0xFFFFFFFF : next();
+            fill(frame, sizeof frame);
+            theirs->write_command((u8)index, argument, frame, 6);
+            for (usize n = 0; n <= sizeof frame; n++)
+                read_one(ours, theirs, frame, n);
+            for (int bit = 0; bit < 48; bit++) {
+                frame[bit / 8] ^= 0x80 >> bit % 8;
+                read_one(ours, theirs, frame, 6);
+                frame[(bit + 1) % 48 / 8] ^= 0x80 >> (bit + 1) % 8;
+                read_one(ours, theirs, frame, 6);
+                frame[bit / 8] ^= 0x80 >> bit % 8;
+                frame[(bit + 1) % 48 / 8] ^= 0x80 >> (bit + 1) % 8;
+            }
+            fill(frame, 6);
+            read_one(ours, theirs, frame, 6);
+        }
+    for (int index = 0; index < 256; index++)
+        for (int k = 0; k < 64; k++)
+            for (usize room = 0; room <= 9; room++) {
+                u32 argument = k == 0 ? 0 : k == 1 ? 0xFFFFFFFF : next();
+                u8 a[9], b[9];
+                memset(a, 0xEE, sizeof a);
+                memset(b, 0xEE, sizeof b);
+                u8 r = ours->write_command((u8)index, argument, a, room), s = theirs->write_command((u8)index, argument, b, room);
+                same(r == s && memcmp(a, b, sizeof a) == 0, "a frame written", theirs, index);
+            }
+}
+
+static void check_one(const struct calls *ours, const struct calls *theirs, const u8 *block, usize length)
+{
+    same(ours->check_block(block, length) == theirs->check_block(block, length), "a block checked", theirs, (long)length);
+}
+
+/* Every payload length from none to too long, every output from too short to too long by a byte. */
+static void blocks(const struct calls *ours, const struct calls *theirs)
+{
+    u8 payload[2060], a[2060], b[2060];
+    fill(payload, sizeof payload);
+    for (usize n = 0; n <= 2052; n++) {
+        for (usize room = n; room <= n + 3; room++) {
+            memset(a, 0xEE, sizeof a);
+            memset(b, 0xEE, sizeof b);
+            u8 r = ours->write_block(payload, n, a, room), s = theirs->write_block(payload, n, b, room);
+            same(r == s && memcmp(a, b, sizeof a) == 0, "a block written", theirs, (long)n);
+        }
+        check_one(ours, theirs, b, n + 2);
+        check_one(ours, theirs, b, n);
+        b[next() % (n + 2)] ^= 1 << next() % 8;
+        check_one(ours, theirs, b, n + 2);
+    }
+}
+
+usize compare(const struct calls *ours, const struct calls *theirs)
+{
+    agreed = 0;
+    sums(ours, theirs);
+    frames(ours, theirs);
+    blocks(ours, theirs);
+    return agreed;
+}

@@ -1,0 +1,161 @@
+/* The table: instructions and times of the proved calls and of plain C, in one run. */
+#include "bench.h"
+#include "mmc.h"
+#define PREFIX plain_
+#include "plain.h"
+#undef PREFIX
+#define PREFIX free_
+#include "plain.h"
+#undef PREFIX
+#define PREFIX one_
+#include "plain.h"
+
+struct timespec {
+    long seconds, nanoseconds;
+};
+int clock_gettime(int clock, struct timespec *time);
+
+#define CALLS(name, p) {name, p##crc7, p##crc16, p##read_frame, p##write_command, p##write_block, p##check_block}
+enum { SETS = 4 };
+static const struct calls SET[SETS] = {
+    CALLS("ours", mmc_),
+    CALLS("plain C", plain_),
+    CALLS("plain C -O2", free_),
+    CALLS("plain C -O2 in one file", one_),
+};
+static const char *const NAMES[WORKS] = {
+    "CRC16, 2,048 bytes", "CRC7, 5 bytes", "frame read", "frame written", "block written, 512", "block checked, 512",
+};
+/* What is wanted at most of the instructions of plain C; 0 where nothing is wanted. */
+static const double WANTED[WORKS] = {1.1, 0, 1.5, 1.5, 0, 0};
+
+static u8 bytes[2048], frame[6], block[514], out[2050];
+static volatile u32 sink;
+
+void prepare(const struct calls *calls)
+{
+    u32 x = 1;
+    for (usize i = 0; i < sizeof bytes; i++) {
+        x = x * 1103515245u + 12345u;
+        bytes[i] = (u8)(x >> 16);
+    }
+    if (calls->write_command(17, 0x00012345, frame, sizeof frame) != 0 || calls->write_block(bytes, 512, block, sizeof block) != 0) {
+        printf("DIFFERENT: %s does not write its own inputs\n", calls->name);
+        exit(1);
+    }
+}
+
+void perform(const struct calls *calls, enum work work)
+{
+    u8 index = 0;
+    u32 argument = 0;
+    switch (work) {
+    case CRC16:
+        sink = calls->crc16(bytes, 2048);
+        break;
+    case CRC7:
+        sink = calls->crc7(frame, 5);
+        break;
+    case READ_FRAME:
+        sink = calls->read_frame(frame, 6, &index, &argument);
+        sink = argument + index;
+        break;
+    case WRITE_COMMAND:
+        sink = calls->write_command(17, 0x00012345, out, 6);
+        break;
+    case WRITE_BLOCK:
+        sink = calls->write_block(bytes, 512, out, 514);
+        break;
+    case CHECK_BLOCK:
+        sink = calls->check_block(block, 514);
+        break;
+    default:
+        break;
+    }
+}
+
+void *code_of(const struct calls *calls, enum work work)
+{
+    void *const code[WORKS] = {
+        (void *)calls->crc16,       (void *)calls->crc7,        (void *)calls->read_frame,
+        (void *)calls->write_command, (void *)calls->write_block, (void *)calls->check_block,
+    };
+    return code[work];
+}
+
+static double now(void)
+{
+    struct timespec t;
+    clock_gettime(1, &t);
+    return (double)t.seconds * 1e9 + (double)t.nanoseconds;
+}
+
+/* Nanoseconds of a call: the least of nine rounds, since whatever else the machine does only adds. */
+static double timed(const struct calls *calls, enum work work)
+{
+    double least = 1e18;
+    int turns = work == CRC16 ? 500 : work >= WRITE_BLOCK ? 2000 : 100000;
+    for (int round = 0; round < 9; round++) {
+        double start = now();
+        for (int i = 0; i < turns; i++)
+            perform(calls, work);
+        double each = (now() - start) / turns;
+        if (each < least)
+            least = each;
+    }
+    return least;
+}
+
+static void head(const char *what, const char *where)
+{
+    printf("\n%s%s\n%-20s %8s", what, where, "", "ours");
+    printf(" %8s %6s %8s %6s %8s %6s\n", "plain C", "ratio", "C -O2", "ratio", "one file", "ratio");
+}
+
+static void counts(void)
+{
+    head("Instructions of one call, from its first to its return", "");
+    for (int w = 0; w < WORKS; w++) {
+        long n[SETS], least = 0;
+        for (int s = 0; s < SETS; s++) {
+            n[s] = count(&SET[s], (enum work)w);
+            if (n[s] < least)
+                least = n[s];
+        }
+        if (least < 0) {
+            printf("%-20s not counted: here no process can step another\n", NAMES[w]);
+            continue;
+        }
+        printf("%-20s %8ld", NAMES[w], n[0]);
+        for (int s = 1; s < SETS; s++)
+            printf(" %8ld %6.3f", n[s], (double)n[0] / (double)n[s]);
+        if (WANTED[w] > 0)
+            printf("  wanted %.1f of plain C: %s", WANTED[w], (double)n[0] <= WANTED[w] * (double)n[1] ? "met" : "NOT MET");
+        printf("\n");
+    }
+}
+
+static void times(const char *where)
+{
+    head("Nanoseconds of one call", where);
+    for (int w = 0; w < WORKS; w++) {
+        double t[SETS];
+        for (int s = 0; s < SETS; s++)
+            t[s] = timed(&SET[s], (enum work)w);
+        printf("%-20s %8.1f", NAMES[w], t[0]);
+        for (int s = 1; s < SETS; s++)
+            printf(" %8.1f %6.3f", t[s], t[0] / t[s]);
+        printf("\n");
+    }
+}
+
+/* The one argument, if any, says where the times were taken. */
+int main(int argc, char **argv)
+{
+    for (int s = 1; s < SETS; s++)
+        printf("ours and %s agree on %lu inputs\n", SET[s].name, compare(&SET[0], &SET[s]));
+    prepare(&SET[0]);
+    counts();
+    times(argc > 1 ? argv[1] : "");
+    return 0;
+}

@@ -1,0 +1,11 @@
+/* The plain C's calls, under the prefix of this build: PREFIX is given on the compiler's command line. */
+#define JOIN_(a, b) a##b
+#define JOIN(a, b) JOIN_(a, b)
+#define PLAIN(name) JOIN(PREFIX, name)
+
+u8 PLAIN(crc7)(const u8 *bytes, usize length);
+u16 PLAIN(crc16)(const u8 *bytes, usize length);
+u8 PLAIN(read_frame)(const u8 *frame, usize length, u8 *index, u32 *argument);
+u8 PLAIN(write_command)(u8 index, u32 argument, u8 *out, usize room);
+u8 PLAIN(write_block)(const u8 *payload, usize length, u8 *out, usize room);
+u8 PLAIN(check_block)(const u8 *block, usize length);
