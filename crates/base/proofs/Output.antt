@@ -5,8 +5,8 @@
 --   untouched   an output that is too short is left as it was
 --   rest-kept   nothing past the answer's end is written, whether the answer fits or not
 -- Assumes nothing.
-use mathlib.Core.Path.{_≡_, refl, sym, ap, _∙_}
-use mathlib.Core.Bool.{Bool, true, false}
+use mathlib.Core.Path.{_≡_}
+use mathlib.Core.Bool.{true, false}
 use mathlib.Core.List.{List, _++_}
 use Prim.Native.Nat.{ℕ, _≤_, _<_}
 use borrow.Author.Tests.{le-leb, lt-leb}
@@ -16,7 +16,6 @@ use lib.Seq.{drop-append-seam}
 use Rattle.base.proofs.Cases.{cases}
 use Rattle.base.specs.Output.{fits, laid}
 use Rattle.base.specs.Refusals.{by}
-use Rattle.base.specs.declared.Written.{Written}
 use Rattle.base.specs.declared.Written.the-variants.{Bytes, Refused}
 
 module _ (bytes out : List ℕ) (n : ℕ) (long : length bytes ≡ n) where

@@ -9,13 +9,13 @@
 --   onward-bits               the number that bytes spell
 --   bits-take, bits-drop      the bits of a part
 -- Assumes nothing.
-use mathlib.Core.Path.{_≡_, refl, sym, ap, ap₂, _∙_, subst, subst⁻¹}
+use mathlib.Core.Path.{_≡_, refl, sym, ap, ap₂, _∙_, subst}
 use mathlib.Core.List.{List, [], _∷_, _++_}
-use Prim.Native.Nat.{ℕ, zero, suc, _+_, _*_, _/_, _%_, _^_, _-_, _≤_, _<_}
+use Prim.Native.Nat.{ℕ, zero, suc, _+_, _*_, _/_, _%_, _^_, _≤_, _<_}
 use native.Mathlib.Nat.{add-assoc, add-comm, add-mul, mul-assoc, mul-comm, pow-suc, suc-add, zero-add, zero-mul, mod-lt, mod-one, mod-eq-of-lt}
 use native.Mathlib.Omega.{arith}
 use lib.Arith.{digits-div, digits-mod, digits-lt, mod-mul}
-use lib.ListN.{length, take, drop, length-append, length-take, length-drop, take-append-drop}
+use lib.ListN.{length, take, drop, length-append, length-drop, take-append-drop}
 use lib.Pow.{pow-pos, shr-shr}
 use lib.Seq.{length-take-le, take-at, drop-at}
 use Rattle.crc.specs.Bits.{bitsOf, bits, onward, spelt, octets, Below}

@@ -15,7 +15,7 @@ use native.Mathlib.Nat.{mod-eq-of-lt, mul-mod-left, pow-suc, le-of-suc-le-suc, n
 use native.Mathlib.Omega.{arith}
 use lib.Dec.{leb}
 use lib.Pow.{pow-pos}
-use lib.ListN.{length, take, drop, getD, set, replicate, length-append, length-set, length-drop, take-append-drop}
+use lib.ListN.{length, take, drop, getD, set, replicate, length-set, length-drop, take-append-drop}
 use lib.Bits.{bitXor, xor-self, xor-zero-r}
 use borrow.Author.Tests.{lt-leb}
 use Rattle.base.specs.Choice.{pick}
@@ -23,7 +23,7 @@ use Rattle.crc.specs.Bits.{bitsOf, spelt, Below}
 use Rattle.crc.specs.Crc.{reduced, divide, remainder}
 use Rattle.crc.specs.Flip.{flip}
 use Rattle.crc.proofs.Xor.{no-more, xor-equal}
-use Rattle.crc.proofs.Bits.{below-append, below-take, below-drop, bitsOf-below, length-bitsOf, spelt-lt, spelt-bitsOf, bitsOf-spelt}
+use Rattle.crc.proofs.Bits.{below-take, below-drop, bitsOf-below, spelt-lt, spelt-bitsOf, bitsOf-spelt}
 use Rattle.crc.proofs.Linear.{G, Sum, none, more, zero-lt-two, sum-left, divide-sum, divide-append, step-lt}
 use Rattle.crc.proofs.Remainder.{lower, only}
 

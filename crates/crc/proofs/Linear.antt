@@ -11,13 +11,12 @@
 use mathlib.Core.Path.{_≡_, refl, sym, ap, ap₂, _∙_, subst, subst⁻¹}
 use mathlib.Core.Bool.{Bool}
 use mathlib.Core.List.{List, [], _∷_, _++_, append-assoc, append-nil}
-use Prim.Native.Nat.{ℕ, zero, suc, _+_, _*_, _/_, _%_, _^_, _<_, _≤_}
+use Prim.Native.Nat.{ℕ, zero, suc, _+_, _*_, _/_, _%_, _^_, _<_}
 use native.Mathlib.Nat.{mod-lt, add-comm, zero-mul, zero-add, div-lt-iff-lt-mul}
 use native.Mathlib.Omega.{arith}
 use lib.Arith.{digits-lt}
 use lib.Pow.{pow-pos, split}
-use lib.Dec.{leb}
-use lib.ListN.{length, replicate, replicate-append-replicate}
+use lib.ListN.{replicate, replicate-append-replicate}
 use lib.Bits.{bitXor, xor-comm, xor-self, xor-zero-r, xor-block, xor-lt, xor-shr, xor-mod}
 use borrow.Author.Tests.{lt-leb, le-leb}
 use Rattle.base.specs.Choice.{pick}

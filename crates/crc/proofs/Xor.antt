@@ -4,11 +4,10 @@
 --   xor-front, xor-double   a number that both have is gone; doubles
 -- Assumes nothing.
 use mathlib.Core.Path.{_≡_, refl, sym, ap, ap₂, _∙_}
-use Prim.Native.Nat.{ℕ, zero, suc, _+_, _*_, _/_, _%_, _^_, _<_}
-use native.Mathlib.Nat.{le-of-suc-le-suc, not-suc-le-zero, mod-lt, zero-lt-suc, add-zero, zero-add, zero-mul}
-use native.Mathlib.Omega.{arith}
-use lib.Arith.{bin-ind, digits-div, digits-mod}
-use lib.Bits.{bitXor, differ, xor-step, xor-shr, xor-mod, xor-comm, xor-self, xor-zero-l, xor-zero-r, xor-block}
+use Prim.Native.Nat.{ℕ, zero, suc, _+_, _*_, _/_, _%_, _<_}
+use native.Mathlib.Nat.{le-of-suc-le-suc, not-suc-le-zero, mod-lt, zero-lt-suc, add-zero}
+use lib.Arith.{bin-ind, digits-mod}
+use lib.Bits.{bitXor, differ, xor-step, xor-shr, xor-comm, xor-self, xor-zero-r, xor-block}
 
 two-pos : zero < 2
 two-pos = zero-lt-suc 1

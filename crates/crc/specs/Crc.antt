@@ -1,7 +1,6 @@
 -- Document 01, "Frames and blocks" (000, 7.1): the check sums are remainders of long division over GF(2).
 -- A polynomial of degree below k is a number below 2 ^ k: bit j is the coefficient of x^j. Sums and differences are bitXor.
 -- Assumes nothing.
-use mathlib.Core.Bool.{Bool, true, false}
 use mathlib.Core.List.{List, [], _∷_, _++_}
 use Prim.Native.Nat.{ℕ, _+_, _*_, _^_}
 use lib.Bits.{bitXor}

@@ -4,23 +4,22 @@
 --   flip-refused        any one flipped bit of a good block is refused 17
 -- Assumes nothing.
 use mathlib.Core.Path.{_≡_, refl, sym, ap, ap₂, _∙_, subst}
-use mathlib.Core.Bool.{Bool, true, false}
 use mathlib.Core.List.{List, [], _∷_, _++_}
-use Prim.Native.Nat.{ℕ, zero, suc, _+_, _-_, _*_, _/_, _%_, _^_, _≤_, _<_}
-use native.Mathlib.Nat.{add-zero, mod-eq-of-lt}
+use Prim.Native.Nat.{ℕ, zero, suc, _+_, _-_, _*_, _/_, _%_, _≤_, _<_}
+use native.Mathlib.Nat.{add-zero}
 use native.Mathlib.Omega.{arith}
 use borrow.Author.Tests.{eq-eqb, ne-eqb, le-leb, eqb-true, leb-true}
 use lib.Dec.{eqb, leb}
 use lib.ListN.{length, take, drop, getD, length-append, length-drop, length-set, take-append-drop}
-use lib.Seq.{getD-append-add, getD-drop, take-append-seam, length-take-le}
+use lib.Seq.{getD-append-add, getD-drop, take-append-seam}
 use Rattle.base.specs.Choice.{unless}
 use Rattle.base.specs.Refusals.{by}
 use Rattle.base.specs.declared.Refusal.{Refusal}
 use Rattle.base.proofs.Cases.{passed}
-use Rattle.crc.specs.Bits.{bits, spelt, octets, Below}
+use Rattle.crc.specs.Bits.{bits, spelt, Below}
 use Rattle.crc.specs.Crc.{remainder, checkSum, generator16, crc16}
 use Rattle.crc.specs.Flip.{flip}
-use Rattle.crc.proofs.Bits.{below-drop, bits-below, bits-octets, bits-take, bits-drop, onward-bits, length-bits, length-octets, octets-below}
+use Rattle.crc.proofs.Bits.{bits-below, bits-octets, bits-take, bits-drop, onward-bits, length-bits, length-octets, octets-below}
 use Rattle.crc.proofs.Flips.{flip-below, flip-found}
 use Rattle.crc.proofs.Steps.{low16, p16}
 use Rattle.wire.specs.Blocks.{longest, blockOf, carried, told, checkedOf}

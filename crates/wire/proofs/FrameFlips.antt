@@ -4,7 +4,7 @@
 use mathlib.Core.Path.{_≡_, refl, sym, ap, ap₂, _∙_, subst}
 use mathlib.Core.Bool.{Bool, true, false}
 use mathlib.Core.List.{List, [], _∷_}
-use Prim.Native.Nat.{ℕ, zero, suc, _+_, _-_, _*_, _≤_, _<_}
+use Prim.Native.Nat.{ℕ, zero, suc, _+_, _-_, _*_, _<_}
 use native.Mathlib.Nat.{suc-add, zero-add}
 use native.Mathlib.Omega.{arith}
 use borrow.Author.Tests.{eq-eqb, ne-eqb, eqb-true, eqb-false}
@@ -14,7 +14,7 @@ use lib.Seq.{drop-cons, getD-set-same, getD-set-other, getD-take, take-nil, take
 use Rattle.base.specs.Choice.{pick, unless}
 use Rattle.base.specs.Refusals.{by}
 use Rattle.base.proofs.Cases.{cases}
-use Rattle.crc.specs.Bits.{bits, spelt, octets, Below}
+use Rattle.crc.specs.Bits.{bits, spelt, Below}
 use Rattle.crc.specs.Crc.{remainder, generator7}
 use Rattle.crc.specs.Flip.{flip}
 use Rattle.crc.proofs.Bits.{below-take, bits-below, bits-octets, length-bits, length-octets}
@@ -22,10 +22,8 @@ use Rattle.crc.proofs.Flips.{flip-below, flip-found}
 use Rattle.crc.proofs.Steps.{low7, p7}
 use Rattle.wire.specs.Flipped.{flipped, framingBit}
 use Rattle.wire.specs.Frames.{crc7Of, field, sentOf, framingOf, checked, frameOf}
-use Rattle.wire.specs.declared.Frame.{Frame}
 use Rattle.wire.specs.declared.Frame.the-variants.{Command, Refused}
-use Rattle.wire.specs.declared.Framing.{Framing}
-use Rattle.wire.specs.declared.Framing.the-variants.{Framed, Unframed}
+use Rattle.wire.specs.declared.Framing.the-variants.{Unframed}
 use Rattle.wire.proofs.FrameTheorems.{Sent, read}
 
 -- a field of one bit is that bit

@@ -4,12 +4,12 @@
 --   Sent, read         what is known of the bits of a frame that is read
 -- Assumes nothing.
 use mathlib.Core.Path.{_≡_, refl, sym, ap, ap₂, _∙_, subst, subst⁻¹}
-use mathlib.Core.Bool.{Bool, true, false}
+use mathlib.Core.Bool.{true, false}
 use mathlib.Core.List.{List, [], _∷_, _++_}
-use Prim.Native.Nat.{ℕ, zero, suc, _+_, _*_, _/_, _%_, _^_, _≤_, _<_}
+use Prim.Native.Nat.{ℕ, _+_, _*_, _/_, _%_, _^_, _≤_, _<_}
 use native.Mathlib.Nat.{mod-eq-of-lt}
 use native.Mathlib.Omega.{arith}
-use borrow.Author.Tests.{eq-eqb, ne-eqb, eqb-true}
+use borrow.Author.Tests.{eq-eqb, eqb-true}
 use lib.Dec.{eqb}
 use lib.ListN.{length, take, drop, getD, length-drop}
 use lib.Seq.{length-take-le}
@@ -21,8 +21,7 @@ use Rattle.crc.proofs.Bits.{below-append, below-take, below-drop, bitsOf-below,
 use Rattle.crc.proofs.Remainder.{the-remainder}
 use Rattle.crc.proofs.Steps.{low7, p7}
 use Rattle.wire.specs.Frames.{crc7Of, sealed, commandFrame, field, sentOf, framingOf, checked, frameOf}
-use Rattle.wire.specs.declared.Frame.{Frame}
-use Rattle.wire.specs.declared.Frame.the-variants.{Command, Refused}
+use Rattle.wire.specs.declared.Frame.the-variants.{Command}
 use Rattle.wire.specs.declared.Framing.{Framing}
 use Rattle.wire.specs.declared.Framing.the-variants.{Framed, Unframed}
 use Rattle.wire.proofs.InBytes.{six-bytes}

@@ -11,16 +11,16 @@
 -- Assumes nothing.
 use mathlib.Core.Path.{_≡_, refl, sym, ap, ap₂, _∙_, subst⁻¹}
 use mathlib.Core.List.{List, [], _∷_, _++_, append-assoc}
-use Prim.Native.Nat.{ℕ, zero, suc, _+_, _*_, _/_, _%_, _^_, _<_}
+use Prim.Native.Nat.{ℕ, _+_, _*_, _/_, _%_, _^_, _<_}
 use native.Mathlib.Nat.{mod-eq-of-lt}
 use native.Mathlib.Omega.{arith}
 use lib.Dec.{eqb}
 use borrow.Author.Tests.{eq-eqb}
-use lib.ListN.{length, getD, take, drop}
+use lib.ListN.{length, getD, take}
 use Rattle.base.specs.Choice.{unless}
 use Rattle.base.specs.Refusals.{by}
-use Rattle.crc.specs.Bits.{bitsOf, bits, spelt, octets, Below}
-use Rattle.crc.specs.Crc.{checkSum, remainder, crc7}
+use Rattle.crc.specs.Bits.{bitsOf, bits, spelt, octets}
+use Rattle.crc.specs.Crc.{checkSum, crc7}
 use Rattle.crc.proofs.Bits.{bits-append, bitsOf-append, bitsOf-low, bitsOf-spelt, onward-bits, bitsOf-below, below-append, octets-bits, spelt-bitsOf}
 use Rattle.crc.proofs.Steps.{crc7-lt}
 use Rattle.wire.specs.Frames.{crc7Of, sealed, field, sentOf, framingOf}

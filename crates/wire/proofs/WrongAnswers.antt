@@ -15,16 +15,14 @@ use mathlib.Core.Bool.{true}
 use mathlib.Core.List.{List, [], _∷_, _++_}
 use Prim.Native.Nat.{ℕ, _+_, _*_}
 use native.Mathlib.Omega.{arith}
-use lib.ListN.{length, getD, replicate}
-use Rattle.base.specs.declared.Written.{Written}
+use lib.ListN.{getD, replicate}
 use Rattle.base.specs.declared.Written.the-variants.{Bytes}
 use Rattle.crc.specs.Bits.{bitsOf, bits, octets}
 use Rattle.crc.specs.Crc.{divide, remainder, checkSum, crc7, crc16}
-use Rattle.wire.specs.Blocks.{blockOf, checkedOf}
+use Rattle.wire.specs.Blocks.{checkedOf}
 use Rattle.wire.specs.Frames.{crc7Of, sealed, commandFrame, indexed}
 use Rattle.wire.specs.Responses.{r1Frame, r3Frame, lastByte, registerRight}
-use Rattle.wire.specs.declared.Checked.{Checked}
-use Rattle.wire.specs.declared.Checked.the-variants.{Payload, Refused}
+use Rattle.wire.specs.declared.Checked.the-variants.{Payload}
 use Rattle.wire.specs.declared.R1.{R1}
 use Rattle.wire.specs.declared.R3.{R3}
 

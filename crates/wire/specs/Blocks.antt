@@ -1,6 +1,5 @@
 -- Document 01, "Frames and blocks": "Data blocks are 1 to 2,048 bytes, then CRC16, high byte first".
 -- Assumes nothing.
-use mathlib.Core.Bool.{Bool}
 use mathlib.Core.List.{List, [], _∷_, _++_}
 use Prim.Native.Nat.{ℕ, _+_, _-_, _*_, _/_, _%_}
 use lib.Dec.{eqb, leb}

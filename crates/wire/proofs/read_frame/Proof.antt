@@ -1,8 +1,8 @@
 -- `wire::read_frame` meets its contract: `checked` goes by the cases of the framing, as the code does.
 -- Assumes nothing.
-use mathlib.Core.Path.{sym, ap, _∙_}
+use mathlib.Core.Path.{sym}
 use borrow.Author.Needs.{needs}
-use Rattle.wire.specs.Frames.{checked, frameOf}
+use Rattle.wire.specs.Frames.{frameOf}
 use Rattle.wire.proofs.read_frame.Statement.{statement}
 use Rattle.wire.proofs.read_frame.Tie as tie
 

@@ -1,12 +1,10 @@
 -- `wire::unframe` meets its contract: at each return the tests that led there say which case of `framingOf` holds, by the law of
 -- a frame's six bytes.
 -- Assumes nothing.
-use mathlib.Core.Path.{_≡_, sym, ap, ap₂, _∙_}
-use Prim.Native.Nat.{ℕ, _<_}
+use mathlib.Core.Path.{sym, ap, ap₂, _∙_}
 use borrow.Author.Needs.{needs}
 use borrow.Author.Tests.{eq-eqb, ne-eqb}
 use denote.Ref.{now}
-use lib.ListN.{length, getD}
 use Rattle.base.proofs.Branch.{tests}
 use Rattle.crc.specs.Crc.{crc7}
 use Rattle.wire.specs.Frames.{framingOf}

@@ -1,7 +1,6 @@
 -- `wire::write_block` meets its contract: the copied payload and the two stores behind it are the block.
 -- Assumes nothing.
 use mathlib.Core.Path.{_≡_, refl, sym, ap, ap₂, _∙_}
-use mathlib.Core.Bool.{Bool}
 use mathlib.Core.List.{List, [], _∷_, _++_}
 use Prim.Native.Nat.{ℕ, _+_, _/_, _%_, _≤_}
 use native.Mathlib.Numerals.{add-one}
@@ -12,7 +11,6 @@ use denote.Ref.{now}
 use lib.ListN.{length, take, drop, set, length-set, length-append}
 use lib.Seq.{sets-eq, take-at, drop-append-add, drop-drop, length-front, length-take-le}
 use Rattle.base.specs.Output.{fits, laid}
-use Rattle.base.proofs.Branch.{tests}
 use Rattle.base.proofs.Output.{short, written}
 use Rattle.crc.specs.Crc.{crc16}
 use Rattle.wire.specs.Blocks.{blockOf, blockWritten}

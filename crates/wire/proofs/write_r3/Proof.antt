@@ -1,12 +1,12 @@
 -- `wire::write_r3` meets its contract: six stores from the front are the six bytes of the answer.
 -- Assumes nothing.
-use mathlib.Core.Path.{_≡_, refl, sym, ap, _∙_}
-use mathlib.Core.List.{List, [], _∷_, _++_}
-use Prim.Native.Nat.{ℕ, _+_, _/_, _%_, _≤_}
+use mathlib.Core.Path.{refl, sym, ap, _∙_}
+use mathlib.Core.List.{List, _++_}
+use Prim.Native.Nat.{ℕ}
 use native.Mathlib.Omega.{arith}
 use borrow.Author.Needs.{needs}
 use denote.Ref.{now}
-use lib.ListN.{length, length-set, drop}
+use lib.ListN.{length-set, drop}
 use lib.Seq.{sets, sets-eq}
 use Rattle.base.proofs.Output.{short, written}
 use Rattle.wire.specs.Responses.{r3Frame}
