@@ -4,6 +4,7 @@
 -- and what that means to whoever lent the output:
 --   untouched   an output that is too short is left as it was
 --   rest-kept   nothing past the answer's end is written, whether the answer fits or not
+--   front       an answer that fits stands at the front
 -- Assumes nothing.
 use mathlib.Core.Path.{_≡_}
 use mathlib.Core.Bool.{true, false}
@@ -11,8 +12,8 @@ use mathlib.Core.List.{List, _++_}
 use Prim.Native.Nat.{ℕ, _≤_, _<_}
 use borrow.Author.Tests.{le-leb, lt-leb}
 use lib.Dec.{leb}
-use lib.ListN.{length, drop}
-use lib.Seq.{drop-append-seam}
+use lib.ListN.{length, take, drop}
+use lib.Seq.{drop-append-seam, take-at}
 use Rattle.base.proofs.Cases.{cases}
 use Rattle.base.specs.Output.{fits, laid}
 use Rattle.base.specs.Refusals.{by}
@@ -33,3 +34,6 @@ rest-kept bytes out =
     cases (leb (length bytes) (length out))
     (λ (t : leb (length bytes) (length out) ≡ true). simp t (drop-append-seam bytes (drop (length bytes) out)))
     (λ (t : leb (length bytes) (length out) ≡ false). simp t)
+
+pub front : (bytes out : List ℕ) (n : ℕ) → length bytes ≡ n → n ≤ length out → take n (laid (fits bytes out) bytes out) ≡ bytes
+front bytes out n long h = simp (long, le-leb n (length out) h) (take-at bytes (drop n out) n long)

@@ -1,5 +1,5 @@
 -- Theorems of data blocks, over the definitions that the contracts of `write_block` and `check_block` name.
---   check-after-write   what is written checks, with the length of its payload
+--   check-after-write   what is written checks, with the length of its payload; check-back, from the front of an output
 --   write-after-check   any block that checks is the one that the writer gives for its payload
 --   flip-refused        any one flipped bit of a good block is refused 17
 -- Assumes nothing.
@@ -13,16 +13,18 @@ use lib.Dec.{eqb, leb}
 use lib.ListN.{length, take, drop, getD, length-append, length-drop, length-set, take-append-drop}
 use lib.Seq.{getD-append-add, getD-drop, take-append-seam}
 use Rattle.base.specs.Choice.{unless}
+use Rattle.base.specs.Output.{laid}
 use Rattle.base.specs.Refusals.{by}
 use Rattle.base.specs.declared.Refusal.{Refusal}
 use Rattle.base.proofs.Cases.{passed}
+use Rattle.base.proofs.Output.{front}
 use Rattle.crc.specs.Bits.{bits, spelt, Below}
 use Rattle.crc.specs.Crc.{remainder, checkSum, generator16, crc16}
 use Rattle.crc.specs.Flip.{flip}
 use Rattle.crc.proofs.Bits.{bits-below, bits-octets, bits-take, bits-drop, onward-bits, length-bits, length-octets, octets-below}
 use Rattle.crc.proofs.Flips.{flip-below, flip-found}
 use Rattle.crc.proofs.Steps.{low16, p16}
-use Rattle.wire.specs.Blocks.{longest, blockOf, carried, told, checkedOf}
+use Rattle.wire.specs.Blocks.{longest, blockOf, blockWritten, carried, told, checkedOf}
 use Rattle.wire.specs.Flipped.{flipped}
 use Rattle.wire.specs.declared.Checked.{Checked}
 use Rattle.wire.specs.declared.Checked.the-variants.{Payload, Refused}
@@ -58,6 +60,10 @@ good b n e =
     }
 
 -- ---- what is written checks
+pub long : (p : List ℕ) → length (blockOf p) ≡ length p + 2
+unfolding blockOf
+long p = length-append p (crc16 p / 256 ∷ crc16 p % 256 ∷ [])
+
 pub check-after-write : (p : List ℕ) → 1 ≤ length p → length p ≤ longest → checkedOf (blockOf p) ≡ Payload (length p)
 unfolding blockOf
 check-after-write p lo hi =
@@ -72,6 +78,14 @@ check-after-write p lo hi =
     let w : v / 256 * 256 + v % 256 ≡ v = omega arith in
     judged (p ++ vs) (omega arith) (omega arith)
     ∙ simp (e2, e1, hi8, lo8, take-append-seam p vs, w, eq-eqb v v refl)
+
+-- the same of what a call leaves at the front of any output that is long enough
+pub check-back : (p out : List ℕ) → 1 ≤ length p → length p ≤ longest → length p + 2 ≤ length out
+    → checkedOf (take (length p + 2) (laid (blockWritten p out) (blockOf p) out)) ≡ Payload (length p)
+unfolding blockWritten
+check-back p out lo hi ho =
+    simp (le-leb 1 (length p) lo, le-leb (length p) longest hi)
+    (ap checkedOf (front (blockOf p) out (length p + 2) (long p) ho) ∙ check-after-write p lo hi)
 
 -- ---- any block that checks is the one that the writer gives
 -- the last two bytes of a block

@@ -1,26 +1,30 @@
 -- Theorems of command frames, over the definitions that the contracts of `read_frame` and `write_command` name.
---   read-after-write   what is written is read back
+--   read-after-write   what is written is read back; read-back, from the front of an output
 --   write-after-read   any frame that is read is the one that the writer gives for what was read
 --   Sent, read         what is known of the bits of a frame that is read
 -- Assumes nothing.
 use mathlib.Core.Path.{_≡_, refl, sym, ap, ap₂, _∙_, subst, subst⁻¹}
-use mathlib.Core.Bool.{true, false}
+use mathlib.Core.Bool.{Bool, true, false}
 use mathlib.Core.List.{List, [], _∷_, _++_}
 use Prim.Native.Nat.{ℕ, _+_, _*_, _/_, _%_, _^_, _≤_, _<_}
 use native.Mathlib.Nat.{mod-eq-of-lt}
 use native.Mathlib.Omega.{arith}
-use borrow.Author.Tests.{eq-eqb, eqb-true}
+use borrow.Author.Tests.{eq-eqb, eqb-true, le-leb}
 use lib.Dec.{eqb}
 use lib.ListN.{length, take, drop, getD, length-drop}
 use lib.Seq.{length-take-le}
+use Rattle.base.specs.Choice.{unless}
+use Rattle.base.specs.Output.{fits, laid}
 use Rattle.base.specs.Refusals.{by}
 use Rattle.base.specs.declared.Refusal.{Refusal}
+use Rattle.base.specs.declared.Written.the-variants.{Refused as NotWritten}
 use Rattle.base.proofs.Cases.{passed}
+use Rattle.base.proofs.Output.{front}
 use Rattle.crc.specs.Bits.{bitsOf, bits, spelt, octets, Below}
 use Rattle.crc.proofs.Bits.{below-append, below-take, below-drop, bitsOf-below, bits-below, length-bits, bitsOf-spelt, bits-octets, octets-bits, spelt-bitsOf, spelt-lt}
 use Rattle.crc.proofs.Remainder.{the-remainder}
 use Rattle.crc.proofs.Steps.{low7, p7}
-use Rattle.wire.specs.Frames.{crc7Of, sealed, commandFrame, field, sentOf, framingOf, checked, frameOf}
+use Rattle.wire.specs.Frames.{crc7Of, sealed, commandFrame, indexed, field, sentOf, framingOf, checked, frameOf}
 use Rattle.wire.specs.declared.Frame.the-variants.{Command}
 use Rattle.wire.specs.declared.Framing.{Framing}
 use Rattle.wire.specs.declared.Framing.the-variants.{Framed, Unframed}
@@ -59,6 +63,16 @@ sent-command i a hi ha =
 pub read-after-write : (i a : ℕ) → i < 64 → a < 2 ^ 32 → frameOf (commandFrame i a) ≡ Command i a
 unfolding frameOf framingOf commandFrame
 read-after-write i a hi ha = ap checked (ap sentOf (command-bits i a) ∙ sent-command i a hi ha)
+
+-- the same of what a call leaves at the front of any output that is long enough
+pub read-back : (i a : ℕ) (out : List ℕ) → i < 64 → a < 2 ^ 32 → 6 ≤ length out
+    → frameOf (take 6 (laid (indexed i (commandFrame i a) out) (commandFrame i a) out)) ≡ Command i a
+unfolding commandFrame
+read-back i a out hi ha ho =
+    let f : List ℕ = commandFrame i a in
+    ap (λ (t : Bool). frameOf (take 6 (laid (unless t (NotWritten (by 4)) (fits f out)) f out))) (le-leb i 63 (omega arith))
+    ∙ ap frameOf (front f out 6 refl ho)
+    ∙ read-after-write i a hi ha
 
 -- ---- what is known of bits that are read as a command
 pub record Sent (w : List ℕ) (i a : ℕ) : Type 0 where

@@ -8,18 +8,15 @@ use native.Mathlib.Omega.{arith}
 use borrow.Author.Needs.{needs}
 use borrow.Author.Tests.{le-leb, lt-leb}
 use denote.Ref.{now}
-use lib.ListN.{length, take, drop, set, length-set, length-append}
+use lib.ListN.{length, take, drop, set, length-set}
 use lib.Seq.{sets-eq, take-at, drop-append-add, drop-drop, length-front, length-take-le}
 use Rattle.base.specs.Output.{fits, laid}
 use Rattle.base.proofs.Output.{short, written}
 use Rattle.crc.specs.Crc.{crc16}
 use Rattle.wire.specs.Blocks.{blockOf, blockWritten}
+use Rattle.wire.proofs.BlockTheorems.{long}
 use Rattle.wire.proofs.write_block.Statement.{statement}
 use Rattle.wire.proofs.write_block.Tie as tie
-
-long : (p : List ℕ) → length (blockOf p) ≡ length p + 2
-unfolding blockOf
-long p = length-append p (crc16 p / 256 ∷ crc16 p % 256 ∷ [])
 
 -- p is the payload, o the output at entry and l after the copy, s the sum
 stored : (p o l : List ℕ) (s : ℕ) → length p + 2 ≤ length o → l ≡ laid (fits p o) p o → s ≡ crc16 p
