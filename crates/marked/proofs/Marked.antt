@@ -4,7 +4,7 @@
 --   accepting      not of a reader that does not look at the CRC7
 --   little         not of a sum with its bytes swapped
 -- Assumes nothing.
-use mathlib.Core.Path.{refl}
+use mathlib.Core.Path.{_≡_, refl}
 use mathlib.Core.List.{List}
 use Prim.Native.Nat.{ℕ, _+_, _*_, _/_, _%_}
 use native.Mathlib.Omega.{arith}
