@@ -1,0 +1,4 @@
+pub mod Bits
+pub mod ErrorTheorems
+pub mod Fields
+pub mod WordTheorems
