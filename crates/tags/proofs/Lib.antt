@@ -1,0 +1,2 @@
+pub mod EraseTheorems
+pub mod TagTheorems
