@@ -1,0 +1,62 @@
+-- `lock::settable` meets its contract: each test decides as its law says.
+-- Assumes nothing.
+use mathlib.Core.Path.{_≡_, sym, _∙_}
+use mathlib.Core.Bool.{true}
+use Prim.Native.Nat.{_+_, _≤_}
+use native.Mathlib.Omega.{arith}
+use borrow.Author.Needs.{needs}
+use borrow.Author.Tests.{not-true, not-false}
+use denote.Ref.{now}
+use lib.ListN.{length}
+use Rattle.lock.specs.Requests.{told, whole}
+use Rattle.lock.proofs.Carried.{enough, settable-cut, settable-few, settable-many, settable-is}
+use Rattle.lock.proofs.settable.Statement.{statement}
+use Rattle.lock.proofs.settable.Tie as tie
+
+-- the block is whole where the first test is passed
+is-whole : (c : tie.Else1) → whole (now (c .before .before .before .args .payload)) ≡ true
+is-whole c = sym (c .before .whole .ensures) ∙ not-false (c .before .whole .result) (c .if1 .left)
+
+ends : (c : tie.Else1) → 2 + told (now (c .before .before .before .args .payload)) ≤ length (now (c .before .before .before .args .payload))
+ends c = enough (now (c .before .before .before .args .payload)) (is-whole c)
+
+returns : tie.Need-returns
+returns c =
+    let a = c .before .before .before .args in
+    sym (settable-cut (a .lock) (now (a .payload)) (sym (c .before .whole .ensures) ∙ not-true (c .before .whole .result) (c .if1 .taken)))
+
+returns-2 : tie.Need-returns-2
+returns-2 c =
+    let h = c .before in
+    let a = h .before .before .before .before .before .args in
+    sym (settable-few (a .lock) (now (a .payload)) (h .held .result) (h .held .ensures .0) (is-whole (h .before .before)) (c .if2 .taken))
+
+returns-3 : tie.Need-returns-3
+returns-3 c =
+    let h = c .before .before in
+    let a = h .before .before .before .before .before .args in
+    sym (settable-many (a .lock) (now (a .payload)) (h .held .result) (h .held .ensures .0) (is-whole (h .before .before)) (c .if3 .taken))
+
+returns-4 : tie.Need-returns-4
+returns-4 c =
+    let e = c .before in
+    let h = e .before .before in
+    let a = h .before .before .before .before .before .args in
+    c .matches .ensures
+    ∙ sym (settable-is (a .lock) (now (a .payload)) (h .held .result) (h .held .ensures .0) (is-whole (h .before .before)) (e .before .if2 .left) (e .if3 .left))
+
+pub settable-spec : {M : Type 1} → statement M
+settable-spec =
+    tie.close
+    (tie.spec
+    (λ c κs. search needs)
+    returns
+    (λ c. omega (arith, ends (c .before)))
+    (λ c. omega (arith, c .shared-slice-known2 .given 1))
+    (λ c κs. search needs)
+    (λ c. search needs)
+    returns-2
+    (λ c. search needs)
+    returns-3
+    (λ c κs. omega (arith, ends (c .before .before .before .before)))
+    returns-4)

@@ -1,0 +1,2 @@
+pub mod Passwords
+pub mod Requests
