@@ -1,0 +1,153 @@
+-- What follows from the table of moves, the rules that fill it, and the lists of commands.
+--   table-is-rule   each entry of the table is what document 01's rules give: one test over the whole table
+--   listed          a move is one of those that the table's column "Move" lists for its row
+--   inactive        an Inactive card ignores every row
+--   bit-22-states   a row is illegal in tran, data, rcv and prg only
+--   never-illegal   CMD1, 2, 3 and 4 are illegal nowhere
+--   unsupported     a command whose class is unsupported falls in the last row: one test over all 256 indices
+-- Assumes nothing.
+use mathlib.Core.Path.{_≡_, refl, subst}
+use mathlib.Core.Bool.{Bool, true, false}
+use mathlib.Core.List.{List, [], _∷_}
+use Prim.Native.Nat.{ℕ, _<_}
+use native.Mathlib.Omega.{arith}
+use borrow.Author.Tests.{eqb-true}
+use lib.Bits.{bitAnd}
+use lib.Dec.{T, eqb, ltb}
+use Rattle.base.proofs.Cases.{cases}
+use Rattle.base.proofs.Span.{below}
+use Rattle.base.specs.Choice.{pick}
+use Rattle.states.specs.States.{numberOf}
+use Rattle.states.specs.declared.Column.{Column}
+use Rattle.states.specs.declared.Column.the-variants.{Tran, Data, Rcv, Prg, Ina}
+use Rattle.moves.proofs.Orders.{moveNumber, movesNumbered, rowsNumbered, everywhere}
+use Rattle.moves.proofs.Spans.{told}
+use Rattle.moves.specs.Classes.{classOf, classNumber}
+use Rattle.moves.specs.Indices.{among}
+use Rattle.moves.specs.Moves.{rowNumber, moveOf}
+use Rattle.moves.specs.Rows.{window, opCondRow, cidRow, transferRow, rowOf}
+use Rattle.moves.specs.Rules.{inState, inRow, legal, ruleOf}
+use Rattle.moves.specs.declared.Asked.{Asked}
+use Rattle.moves.specs.declared.Class.{Class}
+use Rattle.moves.specs.declared.Class.the-variants as class
+use Rattle.moves.specs.declared.Move.{Move}
+use Rattle.moves.specs.declared.Move.the-variants.{Ignored, Silent, Illegal, To}
+use Rattle.moves.specs.declared.Row.{Row}
+use Rattle.moves.specs.declared.Row.the-variants.{OpCondAsked, OpCondShared, OpCondApart, AllSendCidWon, AllSendCidLost, SetRelativeAddr, SetDsr, Unsupported}
+
+abbrev ruled : Row → Column → Bool
+ruled row column = eqb (moveNumber (moveOf row column)) (moveNumber (ruleOf row column))
+
+pub table-is-rule : (row : Row) (column : Column) → moveOf row column ≡ ruleOf row column
+unfolding moveOf ruleOf legal
+table-is-rule row column = told movesNumbered (moveOf row column) (ruleOf row column) (everywhere ruled tt row column)
+
+-- from a state to a state is among the pairs
+abbrev pub pairIn : Column → Column → List (Column × Column) → Bool
+pairIn from there [] = false
+pairIn from there (pair ∷ pairs) =
+    pick (eqb (numberOf from) (numberOf (pair .0))) (pick (eqb (numberOf there) (numberOf (pair .1))) true (pairIn from there pairs))
+    (pairIn from there pairs)
+
+abbrev lawful : Move → Column → List (Column × Column) → Bool
+lawful Ignored from pairs = true
+lawful Silent from pairs = true
+lawful Illegal from pairs = true
+lawful (To there) from pairs = pairIn from there pairs
+
+abbrev fair : Row → Column → Bool
+fair row column = lawful (moveOf row column) column (legal row)
+
+pub listed : (row : Row) (from there : Column) → moveOf row from ≡ To there → T (pairIn from there (legal row))
+unfolding moveOf legal
+listed row from there e = subst (λ (m : Move). T (lawful m from (legal row))) e (everywhere fair tt row from)
+
+pub inactive : (row : Row) → moveOf row Ina ≡ Ignored
+unfolding ruleOf
+inactive row = table-is-rule row Ina
+
+-- a test that has to hold only where a row is illegal
+abbrev ifIllegal : Move → Bool → Bool
+ifIllegal Ignored t = true
+ifIllegal Silent t = true
+ifIllegal Illegal t = t
+ifIllegal (To there) t = true
+
+illegal-only : (f : Row → Column → Bool) → ((row : Row) (column : Column) → T (ifIllegal (moveOf row column) (f row column))) → (row : Row) (column : Column)
+    → moveOf row column ≡ Illegal → T (f row column)
+illegal-only f holds row column e = subst (λ (m : Move). T (ifIllegal m (f row column))) e (holds row column)
+
+abbrev judging : Row → Column → Bool
+judging row column = inState column (Tran ∷ Data ∷ Rcv ∷ Prg ∷ [])
+
+abbrev judged : Row → Column → Bool
+judged row column = ifIllegal (moveOf row column) (judging row column)
+
+pub bit-22-states : (row : Row) (column : Column) → moveOf row column ≡ Illegal → T (inState column (Tran ∷ Data ∷ Rcv ∷ Prg ∷ []))
+unfolding moveOf
+bit-22-states = illegal-only judging (everywhere judged tt)
+
+-- the rows of CMD1 to 4
+abbrev identifying : List Row
+identifying = OpCondAsked ∷ OpCondShared ∷ OpCondApart ∷ AllSendCidWon ∷ AllSendCidLost ∷ SetRelativeAddr ∷ SetDsr ∷ []
+
+abbrev others : Row → Column → Bool
+others row column = pick (inRow row identifying) false true
+
+abbrev othersOnly : Row → Column → Bool
+othersOnly row column = ifIllegal (moveOf row column) (others row column)
+
+row-never-illegal : (row : Row) (column : Column) → inRow row identifying ≡ true → moveOf row column ≡ Illegal → ⊥
+unfolding moveOf
+row-never-illegal row column h e =
+    subst (λ (b : Bool). T (pick b false true)) h (illegal-only others (everywhere othersOnly tt) row column e)
+
+op-cond-identifies : (asked held : ℕ) → inRow (opCondRow asked held) identifying ≡ true
+op-cond-identifies asked held =
+    cases (eqb asked 0)
+    (λ (t : eqb asked 0 ≡ true). simp t)
+    (λ (t : eqb asked 0 ≡ false).
+    cases (ltb 0 (bitAnd asked held))
+    (λ (u : ltb 0 (bitAnd asked held) ≡ true). simp (t, u))
+    (λ (u : ltb 0 (bitAnd asked held) ≡ false). simp (t, u)))
+
+cid-identifies : (wins : Bool) → inRow (cidRow wins) identifying ≡ true
+cid-identifies true = refl
+cid-identifies false = refl
+
+module _ (argument address ocr : ℕ) (wins : Bool) where
+  abbrev at : ℕ → Asked
+  at i = record { index = i; argument = argument; address = address; ocr = ocr; wins = wins }
+
+  identifies : (i : ℕ) → among i (1 ∷ 2 ∷ 3 ∷ 4 ∷ []) ≡ true → inRow (rowOf (at i)) identifying ≡ true
+  unfolding rowOf
+  identifies i h =
+      cases (eqb i 1)
+      (λ (t : eqb i 1 ≡ true). rw (eqb-true i 1 t) (op-cond-identifies (window argument) (window ocr)))
+      (λ (t : eqb i 1 ≡ false).
+      cases (eqb i 2)
+      (λ (u : eqb i 2 ≡ true). rw (eqb-true i 2 u) (cid-identifies wins))
+      (λ (u : eqb i 2 ≡ false).
+      cases (eqb i 3)
+      (λ (v : eqb i 3 ≡ true). rw (eqb-true i 3 v))
+      (λ (v : eqb i 3 ≡ false).
+      cases (eqb i 4)
+      (λ (w : eqb i 4 ≡ true). rw (eqb-true i 4 w))
+      (λ (w : eqb i 4 ≡ false). let z : _≡_ {A = ℕ} 0 1 = cc (simp (t, u, v, w) at h) in absurd (omega arith)))))
+
+  abbrev last : ℕ → Bool
+  last i = pick (eqb (classNumber (classOf i)) (classNumber class.Unsupported)) (eqb (rowNumber (rowOf (at i))) (rowNumber Unsupported)) true
+
+  lasts : (i : ℕ) → i < 256 → T (last i)
+  unfolding classOf rowOf transferRow
+  lasts i h = below last 256 tt i h
+
+pub never-illegal : (asked : Asked) (column : Column) → among (asked .index) (1 ∷ 2 ∷ 3 ∷ 4 ∷ []) ≡ true → moveOf (rowOf asked) column ≡ Illegal → ⊥
+never-illegal asked column h =
+    row-never-illegal (rowOf asked) column (identifies (asked .argument) (asked .address) (asked .ocr) (asked .wins) (asked .index) h)
+
+pub unsupported : (asked : Asked) → asked .index < 256 → classOf (asked .index) ≡ class.Unsupported → rowOf asked ≡ Unsupported
+unsupported asked h e =
+    told rowsNumbered (rowOf asked) Unsupported
+    (subst (λ (c : Class). T (pick (eqb (classNumber c) (classNumber class.Unsupported)) (eqb (rowNumber (rowOf asked)) (rowNumber Unsupported)) true)) e
+    (lasts (asked .argument) (asked .address) (asked .ocr) (asked .wins) (asked .index) h))

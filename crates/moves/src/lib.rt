@@ -1,0 +1,228 @@
+// How a command moves a card (document 01, "How a card takes a frame"): the class of a command by
+// its index, the row of the table of moves that a command falls in, and the table itself.
+//
+// Offers: `Class`, `class_of`; `Asked`, `Row`, `row_of`; `Move`, `next`.
+mod table;
+
+use states::Column;
+use table::MOVES;
+ghost use mathlib.Core.Path.{_≡_};
+ghost use Prim.Native.Nat.{_<_};
+ghost use Rattle.moves.specs.Classes.{classOf};
+ghost use Rattle.moves.specs.Moves.{rowNumber, entryAt, moveOf};
+ghost use Rattle.moves.specs.Rows.{own, window, opCondRow, cidRow, selectRow, forCard, transferRow, rowOf};
+
+// The standard's classes, as far as the base has commands of them.
+pub enum Class {
+    Basic,
+    BlockRead,
+    BlockWrite,
+    WriteProtection,
+    Erase,
+    Lock,
+    Unsupported,
+}
+
+// The rows of the table of moves: the lines of document 01's table in its order, with CMD0 and CMD4
+// in their places, a line with several outcomes in a row for each, and last what no line has.
+pub enum Row {
+    // CMD0.
+    GoIdleState,
+    // CMD1 by its window: 0, one that shares a bit with the OCR, one that shares none.
+    OpCondAsked,
+    OpCondShared,
+    OpCondApart,
+    // CMD2.
+    AllSendCidWon,
+    AllSendCidLost,
+    // CMD3.
+    SetRelativeAddr,
+    // CMD4.
+    SetDsr,
+    // CMD7 for this card, and for another.
+    SelectCard,
+    DeselectCard,
+    // CMD9, 10.
+    SendRegister,
+    // CMD12.
+    StopTransmission,
+    // CMD13.
+    SendStatus,
+    // CMD15.
+    GoInactiveState,
+    // CMD16 sets the block length; 32, 33, 35, 36 tag.
+    SetOrTag,
+    // CMD17, 18, 30.
+    Read,
+    // CMD24, 25, 42.
+    Write,
+    // CMD28, 29, 38.
+    Program,
+    // CMD9, 10, 13, 15 for another card.
+    OtherAddress,
+    // Every other index.
+    Unsupported,
+}
+
+// What a row does in a state: nothing; nothing, and not for this card to judge; nothing but the
+// mark of an illegal command; a move.
+pub enum Move {
+    Ignored,
+    Silent,
+    Illegal,
+    To(Column),
+}
+
+// A command as it meets a card: its index and argument, the card's address and OCR, and whether the
+// card would win the line in CMD2.
+pub struct Asked {
+    pub index: u8,
+    pub argument: u32,
+    pub address: u16,
+    pub ocr: u32,
+    pub wins: bool,
+}
+
+pub fn class_of(index: u8) -> Class
+    ensures answer { λ r. ⌜ r ≡ classOf index ⌝ }
+{
+    match index {
+        0..=4 | 7 | 9..=10 | 12..=13 | 15 => Class::Basic,
+        16..=18 => Class::BlockRead,
+        24..=25 => Class::BlockWrite,
+        28..=30 => Class::WriteProtection,
+        32..=33 | 35..=36 | 38 => Class::Erase,
+        42 => Class::Lock,
+        _ => Class::Unsupported,
+    }
+}
+
+// The place of a row in the table.
+fn row_number(row: Row) -> usize
+    ensures { λ r. ⌜ r ≡ rowNumber row ⌝ }
+{
+    match row {
+        Row::GoIdleState => 0,
+        Row::OpCondAsked => 1,
+        Row::OpCondShared => 2,
+        Row::OpCondApart => 3,
+        Row::AllSendCidWon => 4,
+        Row::AllSendCidLost => 5,
+        Row::SetRelativeAddr => 6,
+        Row::SetDsr => 7,
+        Row::SelectCard => 8,
+        Row::DeselectCard => 9,
+        Row::SendRegister => 10,
+        Row::StopTransmission => 11,
+        Row::SendStatus => 12,
+        Row::GoInactiveState => 13,
+        Row::SetOrTag => 14,
+        Row::Read => 15,
+        Row::Write => 16,
+        Row::Program => 17,
+        Row::OtherAddress => 18,
+        Row::Unsupported => 19,
+    }
+}
+
+// The entry at a place of the table: the only look into it, since a constant is built anew wherever
+// it is named.
+fn entry(line: usize, place: usize) -> Move
+    requires { ⌜ (line < 20) × (place < 10) ⌝ }
+    ensures { λ r. ⌜ r ≡ entryAt line place ⌝ }
+{
+    MOVES[line][place]
+}
+
+// Where a row leads from a state.
+pub fn next(row: Row, column: Column) -> Move
+    ensures answer { λ r. ⌜ r ≡ moveOf row column ⌝ }
+{
+    let line = row_number(row);
+    let place = states::number(column) as usize;
+    entry(line, place)
+}
+
+// CMD1 by its window, bits 23..0.
+fn op_cond(argument: u32, ocr: u32) -> Row
+    ensures { λ r. ⌜ r ≡ opCondRow (window argument) (window ocr) ⌝ }
+{
+    let asked = argument % 0x100_0000;
+    let held = ocr % 0x100_0000;
+    if asked == 0 {
+        return Row::OpCondAsked;
+    }
+    if 0 < asked & held {
+        return Row::OpCondShared;
+    }
+    Row::OpCondApart
+}
+
+fn all_send_cid(wins: bool) -> Row
+    ensures { λ r. ⌜ r ≡ cidRow wins ⌝ }
+{
+    if wins {
+        return Row::AllSendCidWon;
+    }
+    Row::AllSendCidLost
+}
+
+// Whether a command names the card's address.
+fn owned(asked: Asked) -> bool
+    ensures { λ r. ⌜ r ≡ own asked ⌝ }
+{
+    asked.argument / 65536 == asked.address as u32
+}
+
+fn select(asked: Asked) -> Row
+    ensures { λ r. ⌜ r ≡ selectRow (own asked) ⌝ }
+{
+    if owned(asked) {
+        return Row::SelectCard;
+    }
+    Row::DeselectCard
+}
+
+// A row that is only for the card whose address the command names.
+fn for_card(asked: Asked, row: Row) -> Row
+    ensures { λ r. ⌜ r ≡ forCard (own asked) row ⌝ }
+{
+    if owned(asked) {
+        return row;
+    }
+    Row::OtherAddress
+}
+
+// The rows of the commands of a selected card.
+fn transfer_row(index: u8) -> Row
+    ensures { λ r. ⌜ r ≡ transferRow index ⌝ }
+{
+    match index {
+        16 | 32 | 33 | 35 | 36 => Row::SetOrTag,
+        17 | 18 | 30 => Row::Read,
+        24 | 25 | 42 => Row::Write,
+        28 | 29 | 38 => Row::Program,
+        _ => Row::Unsupported,
+    }
+}
+
+// The row that a command falls in at a card.
+pub fn row_of(asked: Asked) -> Row
+    ensures answer { λ r. ⌜ r ≡ rowOf asked ⌝ }
+{
+    let index = asked.index;
+    match index {
+        0 => Row::GoIdleState,
+        1 => op_cond(asked.argument, asked.ocr),
+        2 => all_send_cid(asked.wins),
+        3 => Row::SetRelativeAddr,
+        4 => Row::SetDsr,
+        7 => select(asked),
+        9 => for_card(asked, Row::SendRegister),
+        10 => for_card(asked, Row::SendRegister),
+        12 => Row::StopTransmission,
+        13 => for_card(asked, Row::SendStatus),
+        15 => for_card(asked, Row::GoInactiveState),
+        _ => transfer_row(index),
+    }
+}
