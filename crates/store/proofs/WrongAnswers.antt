@@ -1,0 +1,93 @@
+-- Wrong answers that the promises rule out, each refuted at a sample that antt computes: a call's answer is the definition, so a call
+-- that gave the wrong answer would make the two equal. (Others are tried as must-fail edits.)
+--   size-below, size-above     a size just below the smallest allowed, one just above the largest
+--   size-between               a size that is no multiple of 8,192
+--   entry-two, map-longer      a map with an entry of 2, one with an entry too many
+--   memory-short, lent-entry   a lent memory a byte short, a lent map with an entry of 2
+--   part-past-end, part-cut    a part that ends past the memory, and the bytes of it that are there
+--   group-past-map             a sector whose group the map does not have, taken for free
+--   next-group, own-group      the last sector of a free group taken for one of the protected group behind it, and the other way round
+--   whole-card                 a sector of a card that is protected whole, taken for free
+--   set-as-clear, set-both     CMD28 that clears, CMD28 that sets the next group too
+--   bits-turned, bits-past     the addressed group in the highest bit, groups past the end read as 1
+--   zeros, byte-left           a forced erase that fills with 0, one that leaves the last byte
+--   one-left, all-set          a forced erase that leaves an entry of the map set, one that sets them
+-- Assumes nothing.
+use mathlib.Core.Path.{_≡_, ap}
+use mathlib.Core.Bool.{true, false}
+use mathlib.Core.List.{List, [], _∷_}
+use Prim.Native.Nat.{ℕ}
+use native.Mathlib.Omega.{arith}
+use lib.ListN.{getD}
+use Rattle.store.specs.Map.{entriesRight, mapRight, lentRight, protectedIn, groupSet, bitsFrom, protectionBits, mapCleared}
+use Rattle.store.specs.Memory.{sizeAllowed, inside, partRead, allErased}
+
+size-below : sizeAllowed 8191 ≡ true → ⊥
+size-below e = let z : _≡_ {A = ℕ} 0 1 = cc in omega arith
+
+size-above : sizeAllowed 33562624 ≡ true → ⊥
+size-above e = let z : _≡_ {A = ℕ} 0 1 = cc in omega arith
+
+size-between : sizeAllowed 8704 ≡ true → ⊥
+size-between e = let z : _≡_ {A = ℕ} 0 1 = cc in omega arith
+
+entry-two : mapRight (0 ∷ 2 ∷ []) 2 ≡ true → ⊥
+unfolding entriesRight
+entry-two e = let z : _≡_ {A = ℕ} 0 1 = cc in omega arith
+
+map-longer : mapRight (0 ∷ 0 ∷ []) 1 ≡ true → ⊥
+unfolding entriesRight
+map-longer e = let z : _≡_ {A = ℕ} 0 1 = cc in omega arith
+
+memory-short : lentRight 8191 (0 ∷ []) 1 ≡ true → ⊥
+unfolding entriesRight
+memory-short e = let z : _≡_ {A = ℕ} 0 1 = cc in omega arith
+
+lent-entry : lentRight 8192 (2 ∷ []) 1 ≡ true → ⊥
+unfolding entriesRight
+lent-entry e = let z : _≡_ {A = ℕ} 0 1 = cc in omega arith
+
+part-past-end : inside (1 ∷ 2 ∷ 3 ∷ []) 2 2 ≡ true → ⊥
+part-past-end e = let z : _≡_ {A = ℕ} 0 1 = cc in omega arith
+
+part-cut : partRead (1 ∷ 2 ∷ 3 ∷ []) 2 (0 ∷ 0 ∷ []) ≡ 3 ∷ 0 ∷ [] → ⊥
+unfolding partRead
+part-cut e = let z : _≡_ {A = ℕ} 0 3 = ap (λ (l : List ℕ). getD l 0 0) e in omega arith
+
+group-past-map : protectedIn (0 ∷ []) false 16 ≡ false → ⊥
+group-past-map e = let z : _≡_ {A = ℕ} 0 1 = cc in omega arith
+
+next-group : protectedIn (0 ∷ 1 ∷ []) false 15 ≡ true → ⊥
+next-group e = let z : _≡_ {A = ℕ} 0 1 = cc in omega arith
+
+own-group : protectedIn (0 ∷ 1 ∷ []) false 16 ≡ false → ⊥
+own-group e = let z : _≡_ {A = ℕ} 0 1 = cc in omega arith
+
+whole-card : protectedIn (0 ∷ []) true 0 ≡ false → ⊥
+whole-card e = let z : _≡_ {A = ℕ} 0 1 = cc in omega arith
+
+set-as-clear : groupSet (1 ∷ []) 0 true ≡ 0 ∷ [] → ⊥
+set-as-clear e = let z : _≡_ {A = ℕ} 1 0 = ap (λ (l : List ℕ). getD l 0 0) e in omega arith
+
+set-both : groupSet (0 ∷ 0 ∷ []) 0 true ≡ 1 ∷ 1 ∷ [] → ⊥
+set-both e = let z : _≡_ {A = ℕ} 0 1 = ap (λ (l : List ℕ). getD l 1 0) e in omega arith
+
+bits-turned : protectionBits (1 ∷ 0 ∷ []) 0 ≡ 0x80000000 → ⊥
+unfolding protectionBits bitsFrom
+bits-turned e = omega (arith, e)
+
+bits-past : protectionBits (0 ∷ []) 1 ≡ 0xFFFFFFFF → ⊥
+unfolding protectionBits bitsFrom
+bits-past e = omega (arith, e)
+
+zeros : allErased (1 ∷ []) ≡ 0 ∷ [] → ⊥
+zeros e = let z : _≡_ {A = ℕ} 0xFF 0 = ap (λ (l : List ℕ). getD l 0 0) e in omega arith
+
+one-left : mapCleared (0 ∷ 1 ∷ []) ≡ 0 ∷ 1 ∷ [] → ⊥
+one-left e = let z : _≡_ {A = ℕ} 0 1 = ap (λ (l : List ℕ). getD l 1 0) e in omega arith
+
+byte-left : allErased (0xFF ∷ 1 ∷ []) ≡ 0xFF ∷ 1 ∷ [] → ⊥
+byte-left e = let z : _≡_ {A = ℕ} 0xFF 1 = ap (λ (l : List ℕ). getD l 1 0) e in omega arith
+
+all-set : mapCleared (0 ∷ []) ≡ 1 ∷ [] → ⊥
+all-set e = let z : _≡_ {A = ℕ} 0 1 = ap (λ (l : List ℕ). getD l 0 0) e in omega arith

@@ -1,0 +1,3 @@
+pub mod Erase
+pub mod Map
+pub mod Memory
