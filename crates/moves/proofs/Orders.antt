@@ -1,6 +1,6 @@
--- The rows, the states, the moves and the classes in their orders, and the law by which one test that antt computes over every row in
+-- The rows, the moves and the classes in their orders, and the law by which one test that antt computes over every row in
 -- every state holds at each.
---   row-placed, column-placed      each row and each state is at its number, which the table has
+--   row-placed                     each row is at its number, which the table has
 --   move-by, class-by              each move and each class is what has its number
 --   rowsNumbered, movesNumbered, classesNumbered    the same as one record each
 --   everywhere                     a test that passes at every row in every state passes at any
@@ -15,7 +15,8 @@ use lib.ListN.{getD}
 use Rattle.base.proofs.Table.{every, at}
 use Rattle.states.specs.States.{numberOf}
 use Rattle.states.specs.declared.Column.{Column}
-use Rattle.states.specs.declared.Column.the-variants.{Idle, Ready, Ident, Stby, Tran, Data, Rcv, Prg, Dis, Ina}
+use Rattle.states.specs.declared.Column.the-variants.{Idle}
+use Rattle.states.proofs.Columns.{columns, columnBy, column-placed}
 use Rattle.moves.proofs.Spans.{Numbered}
 use Rattle.moves.specs.Classes.{classNumber}
 use Rattle.moves.specs.Moves.{rowNumber}
@@ -31,14 +32,8 @@ rows =
     GoIdleState ∷ OpCondAsked ∷ OpCondShared ∷ OpCondApart ∷ AllSendCidWon ∷ AllSendCidLost ∷ SetRelativeAddr ∷ SetDsr ∷ SelectCard ∷
     DeselectCard ∷ SendRegister ∷ StopTransmission ∷ SendStatus ∷ GoInactiveState ∷ SetOrTag ∷ Read ∷ Write ∷ Program ∷ OtherAddress ∷ Unsupported ∷ []
 
-abbrev columns : List Column
-columns = Idle ∷ Ready ∷ Ident ∷ Stby ∷ Tran ∷ Data ∷ Rcv ∷ Prg ∷ Dis ∷ Ina ∷ []
-
 abbrev rowBy : ℕ → Row
 rowBy n = getD rows n GoIdleState
-
-abbrev columnBy : ℕ → Column
-columnBy n = getD columns n Idle
 
 pub row-placed : (row : Row) → (rowNumber row < 20) × (rowBy (rowNumber row) ≡ row)
 row-placed GoIdleState = (omega arith, refl)
@@ -61,18 +56,6 @@ row-placed Write = (omega arith, refl)
 row-placed Program = (omega arith, refl)
 row-placed OtherAddress = (omega arith, refl)
 row-placed Unsupported = (omega arith, refl)
-
-pub column-placed : (column : Column) → (numberOf column < 10) × (columnBy (numberOf column) ≡ column)
-column-placed Idle = (omega arith, refl)
-column-placed Ready = (omega arith, refl)
-column-placed Ident = (omega arith, refl)
-column-placed Stby = (omega arith, refl)
-column-placed Tran = (omega arith, refl)
-column-placed Data = (omega arith, refl)
-column-placed Rcv = (omega arith, refl)
-column-placed Prg = (omega arith, refl)
-column-placed Dis = (omega arith, refl)
-column-placed Ina = (omega arith, refl)
 
 abbrev pub moveNumber : Move → ℕ
 moveNumber Ignored = 0

@@ -7,15 +7,13 @@
 -- Assumes nothing.
 use mathlib.Core.Path.{_≡_, refl, sym, ap, ap₂, _∙_}
 use mathlib.Core.Bool.{Bool, true, false}
-use mathlib.Core.List.{List, [], _∷_}
 use Prim.Native.Nat.{ℕ, _+_, _*_, _/_, _%_, _^_, _<_}
 use native.Mathlib.Nat.{min-zero, add-assoc}
 use native.Mathlib.Omega.{arith}
 use lib.Bits.{bitAnd, bitOr, and-zero-r, and-self, and-mod, and-block, and-shifted, and-comm, or-disjoint, or-zero-r}
-use lib.ListN.{getD}
 use Rattle.states.specs.States.{numberOf}
 use Rattle.states.specs.declared.Column.{Column}
-use Rattle.states.specs.declared.Column.the-variants.{Idle, Ready, Ident, Stby, Tran, Data, Rcv, Prg, Dis, Ina}
+use Rattle.states.specs.declared.Column.the-variants.{Stby, Tran, Prg}
 use Rattle.status.specs.Bits.{bitAt}
 use Rattle.status.specs.ErrorBits.{placeOf, errorBits, errorBit, wordWith}
 use Rattle.status.specs.Status.{noErrors, withBit, shown, flag, readyOf, wordOf}
@@ -23,7 +21,8 @@ use Rattle.status.specs.declared.ErrorBit.{ErrorBit}
 use Rattle.status.specs.declared.Errors.{Errors}
 use Rattle.status.proofs.Bits.{bit-and, and-assoc, and-or}
 use Rattle.status.proofs.ErrorTheorems.{same-shown}
-use Rattle.status.proofs.Fields.{flag-lt, number-lt}
+use Rattle.states.proofs.Columns.{columnBy, column-placed}
+use Rattle.status.proofs.Fields.{flag-lt}
 
 -- what stands beside the error bits
 abbrev beside : Bool → Column → ℕ
@@ -39,11 +38,11 @@ lock-free e = bit-and 25 (e .bits) (wordWith errorBits) ∙ min-zero (bitAt 25 (
 module _ (e : Errors) (locked : Bool) (on : Column) where
   pub word-state : wordOf e locked on / 2 ^ 9 % 2 ^ 4 ≡ numberOf on
   unfolding wordOf
-  word-state = omega (arith, low-free e, flag-lt (readyOf on), number-lt on)
+  word-state = omega (arith, low-free e, flag-lt (readyOf on), column-placed on .0)
 
   pub word-locked : bitAt 25 (wordOf e locked on) ≡ flag locked
   unfolding wordOf
-  word-locked = omega (arith, low-free e, lock-free e, flag-lt locked, flag-lt (readyOf on), number-lt on)
+  word-locked = omega (arith, low-free e, lock-free e, flag-lt locked, flag-lt (readyOf on), column-placed on .0)
 
   pub word-ready : bitAt 8 (wordOf e locked on) ≡ flag (readyOf on)
   unfolding wordOf
@@ -64,7 +63,7 @@ free-25 false = refl
 apart : (locked : Bool) (on : Column) → bitAnd (wordWith errorBits) (beside locked on) ≡ 0
 apart locked on =
     let low : ℕ = numberOf on * 2 ^ 9 + flag (readyOf on) * 2 ^ 8 in
-    let small : low < 2 ^ 13 = omega (arith, flag-lt (readyOf on), number-lt on) in
+    let small : low < 2 ^ 13 = omega (arith, flag-lt (readyOf on), column-placed on .0) in
     and-block 25 high (flag locked) (middle * 2 ^ 13) low (omega arith) (omega arith)
     ∙ ap₂ (λ (x y : ℕ). x * 2 ^ 25 + y) (free-25 locked) (and-shifted middle 13 low small)
 
@@ -86,35 +85,19 @@ module _ (e : Errors) (locked : Bool) (on : Column) where
       (and-comm (beside locked on) (wordWith errorBits) ∙ apart locked on)
       ∙ or-zero-r (shown e)
 
--- flags and states from their numbers
+-- flags from their numbers
 flag-back : (b c : Bool) → flag b ≡ flag c → b ≡ c
 flag-back true true h = refl
 flag-back true false h = absurd (omega arith)
 flag-back false true h = absurd (omega arith)
 flag-back false false h = refl
 
-columns : List Column
-columns = Idle ∷ Ready ∷ Ident ∷ Stby ∷ Tran ∷ Data ∷ Rcv ∷ Prg ∷ Dis ∷ Ina ∷ []
-
-column-back : (c : Column) → getD columns (numberOf c) Idle ≡ c
-unfolding columns
-column-back Idle = refl
-column-back Ready = refl
-column-back Ident = refl
-column-back Stby = refl
-column-back Tran = refl
-column-back Data = refl
-column-back Rcv = refl
-column-back Prg = refl
-column-back Dis = refl
-column-back Ina = refl
-
 pub word-determines : (e f : Errors) (l m : Bool) (c d : Column) → wordOf e l c ≡ wordOf f m d → (shown e ≡ shown f) × ((l ≡ m) × (c ≡ d))
 word-determines e f l m c d same =
     let bits : shown e ≡ shown f = sym (word-shown e l c) ∙ ap (λ (x : ℕ). bitAnd x (wordWith errorBits)) same ∙ word-shown f m d in
     let locked : flag l ≡ flag m = sym (word-locked e l c) ∙ ap (bitAt 25) same ∙ word-locked f m d in
     let state : numberOf c ≡ numberOf d = sym (word-state e l c) ∙ ap (λ (x : ℕ). x / 2 ^ 9 % 2 ^ 4) same ∙ word-state f m d in
-    (bits, (flag-back l m locked, sym (column-back c) ∙ ap (λ (n : ℕ). getD columns n Idle) state ∙ column-back d))
+    (bits, (flag-back l m locked, sym (column-placed c .1) ∙ ap columnBy state ∙ column-placed d .1))
 
 pub stray-hidden : (e f : Errors) → ((b : ErrorBit) → bitAt (placeOf b) (e .bits) ≡ bitAt (placeOf b) (f .bits))
     → (locked : Bool) (on : Column) → wordOf e locked on ≡ wordOf f locked on

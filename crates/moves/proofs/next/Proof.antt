@@ -2,7 +2,8 @@
 -- Assumes nothing.
 use native.Mathlib.Omega.{arith}
 use borrow.Author.Needs.{needs}
-use Rattle.moves.proofs.Orders.{row-placed, column-placed}
+use Rattle.states.proofs.Columns.{column-placed}
+use Rattle.moves.proofs.Orders.{row-placed}
 use Rattle.moves.proofs.next.Statement.{statement}
 use Rattle.moves.proofs.next.Tie as tie
 use Rattle.moves.specs.Moves.{moveOf}
