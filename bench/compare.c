@@ -120,11 +120,102 @@ static void blocks(const struct calls *ours, const struct calls *theirs)
     }
 }
 
+/* Lent memory of both, the same before each call, with bytes around it that no call may touch. */
+enum { AROUND = 16, MOST = 41 * 512 };
+static u8 start[MOST + 2 * AROUND], one[MOST + 2 * AROUND], two[MOST + 2 * AROUND];
+#define COUNT(list) (sizeof(list) / sizeof(list)[0])
+
+static void renew(usize length)
+{
+    memcpy(one, start, length + 2 * AROUND);
+    memcpy(two, start, length + 2 * AROUND);
+}
+
+static int memories_equal(usize length)
+{
+    return memcmp(one, two, length + 2 * AROUND) == 0;
+}
+
+static void fills(const struct calls *ours, const struct calls *theirs)
+{
+    for (usize n = 0; n <= 8193; n++) {
+        renew(n);
+        ours->fill(one + AROUND, n);
+        theirs->fill(two + AROUND, n);
+        same(memories_equal(n), "memory filled", theirs, (long)n);
+    }
+}
+
+/* Every place of a memory of five sectors and a byte, and places whose sum with the length passes the widest number. */
+static void reads(const struct calls *ours, const struct calls *theirs)
+{
+    static const usize SIZES[] = {0, 1, 512, 513, 2561};
+    static const usize ROOMS[] = {0, 1, 2, 3, 4, 5, 31, 32, 33, 511, 512, 513, 1023, 1024, 1025, 2047, 2048, 2049, 2560, 2561, 2562};
+    for (usize s = 0; s < COUNT(SIZES); s++)
+        for (usize r = 0; r < COUNT(ROOMS); r++)
+            for (usize k = 0; k <= SIZES[s] + ROOMS[r] + 4; k++) {
+                usize room = ROOMS[r], at = k <= SIZES[s] + 2 ? k : SIZES[s] + 2 - k;
+                renew(room);
+                _Bool a = ours->read(start, SIZES[s], at, one + AROUND, room);
+                _Bool b = theirs->read(start, SIZES[s], at, two + AROUND, room);
+                same(a == b && memories_equal(room), "memory read", theirs, (long)at);
+            }
+}
+
+/* Every length to beyond three sectors; the sectors there, the next ones, and numbers whose place, cut to 32 bits, would lie there. */
+static void writes(const struct calls *ours, const struct calls *theirs)
+{
+    static const u32 SECTORS[] = {0, 1, 2, 3, 4, 0x7FFFFF, 0x800000, 0x800001, 0x80000000, 0xFFFFFFFF};
+    u8 bytes[512];
+    for (usize n = 0; n <= 1540; n++)
+        for (usize s = 0; s < COUNT(SECTORS); s++) {
+            fill(bytes, sizeof bytes);
+            renew(n);
+            ours->write(one + AROUND, n, SECTORS[s], bytes);
+            theirs->write(two + AROUND, n, SECTORS[s], bytes);
+            same(memories_equal(n), "a sector written", theirs, (long)n);
+        }
+}
+
+static void erase_one(const struct calls *ours, const struct calls *theirs, usize length, usize groups, const u8 *map, u32 first, u32 last)
+{
+    renew(length);
+    _Bool a = ours->erase(one + AROUND, length, map, groups, first, last);
+    _Bool b = theirs->erase(two + AROUND, length, map, groups, first, last);
+    same(a == b && memories_equal(length), "sectors erased", theirs, (long)length);
+}
+
+/* Maps of no to three groups, each group open or protected (by a 1, and by a number that no map has); ranges of every first and last
+   sector, reversed ones among them, in 40 sectors; and at the boundaries and past the end in memories of other lengths. */
+static void erases(const struct calls *ours, const struct calls *theirs)
+{
+    static const usize LENGTHS[] = {0, 511, 512, 8191, 8192, 8193, 16384, 20479, 20991};
+    static const u32 AT[] = {0, 1, 7, 8, 15, 16, 17, 31, 32, 33, 38, 39, 40, 41, 0x7FFFFF, 0x800000, 0x80000000, 0xFFFFFFFF};
+    for (usize groups = 0; groups <= 3; groups++)
+        for (u32 set = 0; set < 1u << groups; set++) {
+            u8 map[3];
+            for (int g = 0; g < 3; g++)
+                map[g] = (set >> g & 1) * (g == 2 ? 0x80 : 1);
+            for (u32 first = 0; first <= 41; first++)
+                for (u32 last = 0; last <= 41; last++)
+                    erase_one(ours, theirs, 20480, groups, map, first, last);
+            for (usize n = 0; n < COUNT(LENGTHS); n++)
+                for (usize i = 0; i < COUNT(AT); i++)
+                    for (usize j = 0; j < COUNT(AT); j++)
+                        erase_one(ours, theirs, LENGTHS[n], groups, map, AT[i], AT[j]);
+        }
+}
+
 usize compare(const struct calls *ours, const struct calls *theirs)
 {
     agreed = 0;
     sums(ours, theirs);
     frames(ours, theirs);
     blocks(ours, theirs);
+    fill(start, sizeof start);
+    fills(ours, theirs);
+    reads(ours, theirs);
+    writes(ours, theirs);
+    erases(ours, theirs);
     return agreed;
 }

@@ -1,5 +1,8 @@
 /* Instructions counted exactly: a child is stepped one instruction at a time, and those between the call's first instruction and
-   its return are counted, the callees' among them. Nothing has to be taken off for the way to the call. */
+   its return are counted, the callees' among them. Nothing has to be taken off for the way to the call.
+
+   An instruction with a `rep` prefix stops after each of its repetitions, before the last with the instruction pointer where it
+   was. It is one instruction, as a processor's own counter has it: a step that leaves the pointer where it was is not counted. */
 #include "bench.h"
 
 int fork(void);
@@ -33,11 +36,15 @@ static long counted(int child, long entry)
         if (!step(child, &limit))
             return -1;
     long stack = ptrace(PEEKUSER, child, (long)RSP, 0L), back = ptrace(PEEKDATA, child, stack, 0L), n = 0;
+    long at = entry;
     do {
+        long before = at;
         if (!step(child, &limit))
             return -1;
-        n++;
-    } while (ptrace(PEEKUSER, child, (long)RIP, 0L) != back || ptrace(PEEKUSER, child, (long)RSP, 0L) <= stack);
+        at = ptrace(PEEKUSER, child, (long)RIP, 0L);
+        if (at != before)
+            n++;
+    } while (at != back || ptrace(PEEKUSER, child, (long)RSP, 0L) <= stack);
     return n;
 }
 

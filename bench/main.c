@@ -1,5 +1,6 @@
 /* The table: instructions and times of the proved calls and of plain C, in one run. */
 #include "bench.h"
+#include "measured.h"
 #include "mmc.h"
 #define PREFIX plain_
 #include "plain.h"
@@ -15,21 +16,25 @@ struct timespec {
 };
 int clock_gettime(int clock, struct timespec *time);
 
-#define CALLS(name, p) {name, p##crc7, p##crc16, p##read_frame, p##write_command, p##write_block, p##check_block}
+#define CALLS(name, p, q) \
+    {name, p##crc7, p##crc16, p##read_frame, p##write_command, p##write_block, p##check_block, q##fill, q##read, q##write, q##erase}
 enum { SETS = 4 };
 static const struct calls SET[SETS] = {
-    CALLS("ours", mmc_),
-    CALLS("plain C", plain_),
-    CALLS("plain C -O2", free_),
-    CALLS("plain C -O2 in one file", one_),
+    CALLS("ours", mmc_, measured_),
+    CALLS("plain C", plain_, plain_),
+    CALLS("plain C -O2", free_, free_),
+    CALLS("plain C -O2 in one file", one_, one_),
 };
 static const char *const NAMES[WORKS] = {
-    "CRC16, 2,048 bytes", "CRC7, 5 bytes", "frame read", "frame written", "block written, 512", "block checked, 512",
+    "CRC16, 2,048 bytes", "CRC7, 5 bytes",   "frame read",        "frame written",  "block written, 512", "block checked, 512",
+    "filled, 8,192",      "copied out, 512", "copied out, 2,048", "sector written", "16 sectors erased",  "8 of 16 protected",
 };
 /* What is wanted at most of the instructions of plain C; 0 where nothing is wanted. */
-static const double WANTED[WORKS] = {1.1, 0, 1.5, 1.5, 0, 0};
+static const double WANTED[WORKS] = {1.1, 0, 1.5, 1.5, 0, 0, 1.5, 1.5, 1.5, 1.5, 1.5, 1.5};
 
-static u8 bytes[2048], frame[6], block[514], out[2050];
+static u8 bytes[2048], frame[6], block[514], out[2050], memory[16384];
+/* The maps of a memory of two groups: the sectors 8 to 23 lie half in the one and half in the other. */
+static const u8 OPEN[2] = {0, 0}, HALF[2] = {0, 1};
 static volatile u32 sink;
 
 void prepare(const struct calls *calls)
@@ -69,6 +74,24 @@ void perform(const struct calls *calls, enum work work)
     case CHECK_BLOCK:
         sink = calls->check_block(block, 514);
         break;
+    case FILL:
+        calls->fill(memory, 8192);
+        break;
+    case READ_512:
+        sink = calls->read(memory, sizeof memory, 512, out, 512);
+        break;
+    case READ_2048:
+        sink = calls->read(memory, sizeof memory, 512, out, 2048);
+        break;
+    case WRITE_SECTOR:
+        calls->write(memory, sizeof memory, 1, bytes);
+        break;
+    case ERASE:
+        sink = calls->erase(memory, sizeof memory, OPEN, 2, 8, 23);
+        break;
+    case ERASE_HALF:
+        sink = calls->erase(memory, sizeof memory, HALF, 2, 8, 23);
+        break;
     default:
         break;
     }
@@ -77,8 +100,10 @@ void perform(const struct calls *calls, enum work work)
 void *code_of(const struct calls *calls, enum work work)
 {
     void *const code[WORKS] = {
-        (void *)calls->crc16,       (void *)calls->crc7,        (void *)calls->read_frame,
+        (void *)calls->crc16,         (void *)calls->crc7,        (void *)calls->read_frame,
         (void *)calls->write_command, (void *)calls->write_block, (void *)calls->check_block,
+        (void *)calls->fill,          (void *)calls->read,        (void *)calls->read,
+        (void *)calls->write,         (void *)calls->erase,       (void *)calls->erase,
     };
     return code[work];
 }

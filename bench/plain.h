@@ -9,3 +9,7 @@ u8 PLAIN(read_frame)(const u8 *frame, usize length, u8 *index, u32 *argument);
 u8 PLAIN(write_command)(u8 index, u32 argument, u8 *out, usize room);
 u8 PLAIN(write_block)(const u8 *payload, usize length, u8 *out, usize room);
 u8 PLAIN(check_block)(const u8 *block, usize length);
+void PLAIN(fill)(u8 *memory, usize length);
+_Bool PLAIN(read)(const u8 *restrict memory, usize length, usize at, u8 *restrict out, usize room);
+void PLAIN(write)(u8 *restrict memory, usize length, u32 sector, const u8 *restrict bytes);
+_Bool PLAIN(erase)(u8 *restrict memory, usize length, const u8 *restrict map, usize groups, u32 first, u32 last);
