@@ -1,0 +1,25 @@
+-- `leaves::say::short_hex` is safe: what was written lies within the text.
+-- Assumes nothing.
+use native.Mathlib.Omega.{arith}
+use borrow.Author.Needs.{needs}
+use denote.Ref.{now}
+use lib.ListN.{replicate}
+use Rattle.lines.specs.Text.{hexOf}
+use Rattle.leaves.proofs.Within.{within}
+use Rattle.leaves.proofs.say.short_hex.Statement.{statement}
+use Rattle.leaves.proofs.say.short_hex.Tie as tie
+
+say-text-requires : tie.Need-say-text-requires
+say-text-requires c κs =
+    let d = c .before .before in
+    omega (arith, within (hexOf (now (d .before .before .before .args .bytes))) (replicate 80 0) (d .hex .result) (d .hex .ensures .0))
+
+pub short-hex-spec : {M : Type 1} → statement M
+short-hex-spec =
+    tie.close
+    (tie.spec
+    (λ c. search needs)
+    (λ c κs. search needs)
+    (λ c. search needs)
+    say-text-requires
+    (λ c. search needs))
