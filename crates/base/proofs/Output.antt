@@ -5,18 +5,21 @@
 --   untouched   an output that is too short is left as it was
 --   rest-kept   nothing past the answer's end is written, whether the answer fits or not
 --   front       an answer that fits stands at the front
+--   within      what an answer says that it wrote lies within the output
 -- Assumes nothing.
 use mathlib.Core.Path.{_≡_}
 use mathlib.Core.Bool.{true, false}
 use mathlib.Core.List.{List, _++_}
 use Prim.Native.Nat.{ℕ, _≤_, _<_}
-use borrow.Author.Tests.{le-leb, lt-leb}
+use native.Mathlib.Omega.{arith}
+use borrow.Author.Tests.{le-leb, lt-leb, leb-true}
 use lib.Dec.{leb}
 use lib.ListN.{length, take, drop}
 use lib.Seq.{drop-append-seam, take-at}
 use Rattle.base.proofs.Cases.{cases}
-use Rattle.base.specs.Output.{fits, laid}
+use Rattle.base.specs.Output.{fits, laid, bytesOf}
 use Rattle.base.specs.Refusals.{by}
+use Rattle.base.specs.declared.Written.{Written}
 use Rattle.base.specs.declared.Written.the-variants.{Bytes, Refused}
 
 module _ (bytes out : List ℕ) (n : ℕ) (long : length bytes ≡ n) where
@@ -37,3 +40,10 @@ rest-kept bytes out =
 
 pub front : (bytes out : List ℕ) (n : ℕ) → length bytes ≡ n → n ≤ length out → take n (laid (fits bytes out) bytes out) ≡ bytes
 front bytes out n long h = simp (long, le-leb n (length out) h) (take-at bytes (drop n out) n long)
+
+pub within : (bytes out : List ℕ) (answer : Written) → answer ≡ fits bytes out → bytesOf answer ≤ length out
+within bytes out answer e =
+    rw e
+    (cases (leb (length bytes) (length out))
+    (λ (t : leb (length bytes) (length out) ≡ true). rw t (leb-true (length bytes) (length out) t))
+    (λ (t : leb (length bytes) (length out) ≡ false). rw t (omega arith)))

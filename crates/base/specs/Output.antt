@@ -17,3 +17,8 @@ fits bytes out = unless (leb (length bytes) (length out)) (Refused (by 6)) (Byte
 abbrev pub laid : Written → List ℕ → List ℕ → List ℕ
 laid (Bytes n) bytes out = bytes ++ drop (length bytes) out
 laid (Refused r) bytes out = out
+
+-- how many bytes at the front of an output an answer speaks of: none where it is a refusal
+abbrev pub bytesOf : Written → ℕ
+bytesOf (Bytes n) = n
+bytesOf (Refused r) = 0

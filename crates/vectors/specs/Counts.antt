@@ -1,14 +1,8 @@
 -- How many bytes an answer says that it stored: none where it stored none.
 -- Assumes nothing.
 use Prim.Native.Nat.{ℕ}
-use Rattle.base.specs.declared.Written.{Written}
-use Rattle.base.specs.declared.Written.the-variants.{Bytes, Refused}
 use Rattle.vectors.specs.declared.parse.Number.{Number}
 use Rattle.vectors.specs.declared.parse.Number.the-variants.{Is, None}
-
-abbrev pub written : Written → ℕ
-written (Bytes n) = n
-written (Refused r) = 0
 
 abbrev pub stored : Number → ℕ
 stored (Is n) = n

@@ -9,7 +9,7 @@ use wire::Frame;
 use wire::Framing;
 ghost use Prim.Native.Nat.{_≤_};
 ghost use lib.ListN.{length};
-ghost use Rattle.vectors.specs.Counts.{written};
+ghost use Rattle.base.specs.Output.{bytesOf};
 
 pub fn say(text: &[u8]) {
     io::write_all(STDOUT_FILENO, text);
@@ -17,7 +17,7 @@ pub fn say(text: &[u8]) {
 
 // The front of a text, as long as the call that wrote it says.
 fn say_text(answer: Written, text: &[u8])
-    requires { ⌜ written answer ≤ length (now text) ⌝ }
+    requires { ⌜ bytesOf answer ≤ length (now text) ⌝ }
 {
     if let Written::Bytes(n) = answer {
         say(&text[0..n]);

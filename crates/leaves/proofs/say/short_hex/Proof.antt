@@ -5,7 +5,7 @@ use borrow.Author.Needs.{needs}
 use denote.Ref.{now}
 use lib.ListN.{replicate}
 use Rattle.lines.specs.Text.{hexOf}
-use Rattle.leaves.proofs.Within.{within}
+use Rattle.base.proofs.Output.{within}
 use Rattle.leaves.proofs.say.short_hex.Statement.{statement}
 use Rattle.leaves.proofs.say.short_hex.Tie as tie
 

@@ -5,7 +5,7 @@ use borrow.Author.Needs.{needs}
 use denote.Ref.{now}
 use lib.ListN.{replicate}
 use Rattle.lines.specs.Text.{hexOf}
-use Rattle.vectors.proofs.Within.{within}
+use Rattle.base.proofs.Output.{within}
 use Rattle.vectors.proofs.say.say_hex.Statement.{statement}
 use Rattle.vectors.proofs.say.say_hex.Tie as tie
 

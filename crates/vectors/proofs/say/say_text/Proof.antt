@@ -3,12 +3,12 @@
 use mathlib.Core.Path.{ap}
 use native.Mathlib.Omega.{arith}
 use borrow.Author.Needs.{needs}
-use Rattle.vectors.specs.Counts.{written}
+use Rattle.base.specs.Output.{bytesOf}
 use Rattle.vectors.proofs.say.say_text.Statement.{statement}
 use Rattle.vectors.proofs.say.say_text.Tie as tie
 
 part-say-end : tie.Need-part-say-end
-part-say-end c = omega (arith, ap written (c .before .answer .given .1))
+part-say-end c = omega (arith, ap bytesOf (c .before .answer .given .1))
 
 pub say-text-spec : {M : Type 1} → statement M
 say-text-spec =
