@@ -1,0 +1,3 @@
+pub mod Making
+pub mod Power
+pub mod Record
