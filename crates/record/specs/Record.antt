@@ -2,8 +2,8 @@
 -- Assumes nothing.
 use mathlib.Core.Bool.{Bool, _||_}
 use mathlib.Core.List.{List}
-use Prim.Native.Nat.{ℕ, _*_, _-_, _/_, _%_, _^_}
-use lib.Dec.{eqb, leb}
+use Prim.Native.Nat.{ℕ, _+_, _*_, _-_, _/_, _%_, _^_}
+use lib.Dec.{eqb, leb, ltb}
 use lib.ListN.{getD}
 use Rattle.base.specs.Choice.{unless}
 use Rattle.lock.specs.declared.Lock.{Lock}
@@ -32,6 +32,10 @@ longest = 2048
 -- a block length as it is read: one of 0 or over 2,048, which no CMD16 sets, reads as 2,048
 abbrev pub lengthRead : ℕ → ℕ
 lengthRead length = unless (leb 1 length) longest (unless (leb length longest) longest length)
+
+-- "physical read block 2,048 bytes": whether a block goes on past the read block in which it begins, "crossing a multiple of 2,048"
+abbrev pub crosses : ℕ → ℕ → Bool
+crosses at length = ltb 2048 (at % 2048 + length)
 
 -- a link, or a card, with one part changed and the others as they were
 abbrev pub withState : Link → State → Link

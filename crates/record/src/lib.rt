@@ -2,7 +2,7 @@
 // only the small part that it changes; how a card is made, powered on, and told that its work is
 // done. Any value of the record may come in, so no call has a `requires`.
 //
-// Offers: `Registers`, `Link`, `Card`; `size`, `csd_protects`, `read_length`, `fresh`; `power_on`,
+// Offers: `Registers`, `Link`, `Card`; `size`, `csd_protects`, `read_length`, `crosses`, `fresh`; `power_on`,
 // `work_done`; `Making`, `Made`, `make`.
 use base::Refusal;
 use lock::Lock;
@@ -13,7 +13,7 @@ ghost use mathlib.Core.Path.{_≡_};
 ghost use lib.ListN.{length};
 ghost use Rattle.record.specs.Making.{refusedMake, failedMake, passwordMade, madeOf};
 ghost use Rattle.record.specs.Power.{freshLink, poweredOn, workedState, worked};
-ghost use Rattle.record.specs.Record.{sizeOf, csdProtects, lengthRead};
+ghost use Rattle.record.specs.Record.{sizeOf, csdProtects, lengthRead, crosses};
 
 // What a card is made with and keeps: CID, CSD, OCR, and the size of its memory, in protection
 // groups, so that every size is a multiple of 8,192.
@@ -81,6 +81,13 @@ pub fn read_length(length: u16) -> u16
         return 2048;
     }
     length
+}
+
+// Whether a block of so many bytes, at least one, lies in two physical read blocks.
+pub fn crosses(at: u32, length: u16) -> bool
+    ensures answer { λ r. ⌜ r ≡ crosses at length ⌝ }
+{
+    2048 < at as u64 % 2048 + length as u64
 }
 
 // The link after power-on and after CMD0.

@@ -1,0 +1,140 @@
+-- Document 01, "Reading, writing, erasing, locking": a block in. "Block in: 12, 15, 16, 17, 18, 19 or 20."
+-- Assumes nothing.
+use mathlib.Core.Bool.{Bool, not}
+use mathlib.Core.List.{List, _++_}
+use Prim.Native.Nat.{ℕ, _+_, _-_, _*_, _/_}
+use lib.Dec.{eqb, ltb}
+use lib.ListN.{length, take, replicate}
+use Rattle.base.specs.Choice.{unless}
+use Rattle.base.specs.Refusals.{by}
+use Rattle.base.specs.declared.Refusal.{Refusal}
+use Rattle.card.specs.Replies.{replied, refused}
+use Rattle.card.specs.declared.BlockJudged.{BlockJudged}
+use Rattle.card.specs.declared.Outcome.the-variants.{Done}
+use Rattle.card.specs.declared.Storing.{Storing}
+use Rattle.card.specs.declared.Storing.the-variants.{Nothing, Sector, All}
+use Rattle.command.specs.declared.Sent.the-variants.{Nothing as Unsent}
+use Rattle.crc.specs.Crc.{crc16}
+use Rattle.lock.specs.Requests.{requestOf}
+use Rattle.lock.specs.declared.Answer.{Answer}
+use Rattle.lock.specs.declared.Answer.the-variants.{Granted, Erased, Failed}
+use Rattle.lock.specs.declared.Lock.{Lock}
+use Rattle.record.specs.Record.{sizeOf, csdProtects, lengthRead, withState, withErrors, withLink, withLock}
+use Rattle.record.specs.declared.Card.{Card}
+use Rattle.states.specs.declared.Incoming.{Incoming}
+use Rattle.states.specs.declared.Incoming.the-variants.{One, Many, LockRequest}
+use Rattle.states.specs.declared.State.{State}
+use Rattle.states.specs.declared.State.the-variants.{Idle, Ready, Ident, Stby, Tran, Data, Rcv, Prg, Dis, Ina}
+use Rattle.status.specs.ErrorBits.{errorBit}
+use Rattle.status.specs.Status.{withFault}
+use Rattle.status.specs.declared.Fault.{Fault}
+use Rattle.status.specs.declared.Fault.the-variants.{None, Bit}
+use Rattle.store.specs.Map.{lentRight, protectedIn, mapCleared}
+use Rattle.store.specs.Memory.{sectorWritten, allErased}
+use Rattle.wire.specs.Blocks.{carried, told}
+
+-- what a block carries beside its payload: "then CRC16"
+abbrev pub beside : ℕ
+beside = 2
+
+-- the payload's length that is awaited: a write's is a sector, and a lock request is "one block of the block length"
+abbrev pub awaitedLength : Card → Incoming → ℕ
+awaitedLength card (One at) = 512
+awaitedLength card (Many at) = 512
+awaitedLength card LockRequest = lengthRead (card .link .length)
+
+-- the sector that a write goes to: an address that is not aligned reads rounded down
+abbrev pub sectorAt : ℕ → ℕ
+sectorAt at = at / 512
+
+-- after a refused block: "CMD24 then goes to tran, CMD25 stays at its address"; a lock request's "16, 17, 20 go to tran"
+abbrev pub afterRefused : Incoming → State
+afterRefused (One at) = Tran
+afterRefused (Many at) = Rcv (Many at)
+afterRefused LockRequest = Tran
+
+-- after a good one: "CMD24 goes to prg, CMD25 stays and moves on 512"; "Granted goes to prg"
+abbrev pub afterGood : Incoming → State
+afterGood (One at) = Prg
+afterGood (Many at) = Rcv (Many (sectorAt at * 512 + 512))
+afterGood LockRequest = Prg
+
+-- a refused block with the error bit that it sets, if any: "Refused 16, 18 and 19 set bits 29, 31, 26; 17 sets none"; "16 sets bit 29, 20
+-- sets 24". Nothing is stored
+unfoldable pub blockRefused : Card → Incoming → Refusal → Fault → BlockJudged
+blockRefused card incoming refusal fault =
+    record {
+      stepped = refused (withLink card (withErrors (withState (card .link) (afterRefused incoming)) (withFault (card .link .errors) fault))) refusal;
+      storing = Nothing;
+    }
+
+-- a good block, and what is to be stored
+unfoldable pub blockGood : Card → Incoming → Storing → BlockJudged
+blockGood card incoming storing =
+    record { stepped = replied (withLink card (withState (card .link) (afterGood incoming))) Done Unsent; storing = storing }
+
+-- a write's block: 18, 19, and else "A good block is stored"
+unfoldable pub writeJudged : Card → Incoming → ℕ → List ℕ → BlockJudged
+writeJudged card incoming sector map =
+    unless (ltb sector (sizeOf (card .registers .groups) / 512)) (blockRefused card incoming (by 18) (Bit (errorBit 31)))
+    (unless (not (protectedIn map (csdProtects (card .registers .csd)) sector)) (blockRefused card incoming (by 19) (Bit (errorBit 26)))
+    (blockGood card incoming (Sector sector)))
+
+-- a lock request's block: 20 where it failed; "Forced erase .. fills memory, clears the map"
+abbrev pub lockJudged : Card → Lock → Answer → BlockJudged
+lockJudged card lock Granted = blockGood (withLock card lock) LockRequest Nothing
+lockJudged card lock Erased = blockGood (withLock card lock) LockRequest All
+lockJudged card lock Failed = blockRefused card LockRequest (by 20) (Bit (errorBit 24))
+
+-- what a block of the right length with the right CRC16 does
+abbrev pub carriedOut : Card → Incoming → List ℕ → List ℕ → BlockJudged
+carriedOut card (One at) payload map = writeJudged card (One at) (sectorAt at) map
+carriedOut card (Many at) payload map = writeJudged card (Many at) (sectorAt at) map
+carriedOut card LockRequest payload map =
+    lockJudged card (requestOf (card .lock) payload (csdProtects (card .registers .csd)) .lock)
+    (requestOf (card .lock) payload (csdProtects (card .registers .csd)) .answer)
+
+-- 16 and 17 of an awaited block
+unfoldable pub awaitedJudged : Card → Incoming → List ℕ → List ℕ → BlockJudged
+awaitedJudged card incoming block map =
+    unless (eqb (length block) (awaitedLength card incoming + beside)) (blockRefused card incoming (by 16) (Bit (errorBit 29)))
+    (unless (eqb (told block) (crc16 (carried block))) (blockRefused card incoming (by 17) None)
+    (carriedOut card incoming (carried block) map))
+
+-- a block that is not looked at: the record is as it was
+abbrev pub unread : Card → Refusal → BlockJudged
+unread card refusal = record { stepped = refused card refusal; storing = Nothing }
+
+-- 15: "no block is expected"
+abbrev pub stateJudged : Card → State → List ℕ → List ℕ → BlockJudged
+stateJudged card Idle block map = unread card (by 15)
+stateJudged card Ready block map = unread card (by 15)
+stateJudged card Ident block map = unread card (by 15)
+stateJudged card Stby block map = unread card (by 15)
+stateJudged card Tran block map = unread card (by 15)
+stateJudged card (Data outgoing) block map = unread card (by 15)
+stateJudged card (Rcv incoming) block map = awaitedJudged card incoming block map
+stateJudged card Prg block map = unread card (by 15)
+stateJudged card Dis block map = unread card (by 15)
+stateJudged card Ina block map = unread card (by 15)
+
+-- a block in, judged from the lengths of what is lent and the map
+unfoldable pub blockJudged : Card → List ℕ → ℕ → List ℕ → BlockJudged
+blockJudged card block memory map =
+    unless (lentRight memory map (card .registers .groups)) (unread card (by 12)) (stateJudged card (card .link .state) block map)
+
+-- the 512 bytes that judging gives beside its answer: the block's first, and zeros where it has fewer
+unfoldable pub keptOf : List ℕ → List ℕ
+keptOf block = take 512 block ++ replicate (512 - length block) 0
+
+-- the contents afterwards
+abbrev pub storedBy : List ℕ → List ℕ → Storing → List ℕ
+storedBy kept memory Nothing = memory
+storedBy kept memory (Sector sector) = sectorWritten memory sector kept
+storedBy kept memory All = allErased memory
+
+-- the map afterwards
+abbrev pub clearedBy : List ℕ → Storing → List ℕ
+clearedBy map Nothing = map
+clearedBy map (Sector sector) = map
+clearedBy map All = mapCleared map

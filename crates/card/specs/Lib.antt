@@ -1,0 +1,6 @@
+pub mod BlockIn
+pub mod BlockOut
+pub mod Frame
+pub mod Replies
+pub mod Sent
+pub mod Step

@@ -1,0 +1,97 @@
+// One card at its socket's own calls (document 01, "How a card takes a frame" and "Reading, writing,
+// erasing, locking"): a frame, a block in, a block out, work done and power-on, and the one step
+// that is any of them. Each judges by value, from the record, the input, the map and the lengths of
+// the rest, and then changes what is lent. No call has a `requires`.
+//
+// Offers: `Outcome`, `Reply`, `Stepped`; `frame`, `block_in`, `block_out`; `Call`, `step`;
+// `write_sent`.
+mod block_in;
+mod block_out;
+mod frame;
+mod sent;
+
+use base::Refusal;
+use command::Sent;
+use record::Card;
+ghost use mathlib.Core.Path.{_≡_};
+ghost use lib.ListN.{length};
+ghost use Rattle.card.specs.Replies.{refused, done};
+ghost use Rattle.card.specs.Step.{stepOf, memoryOf, mapOf, outputOf};
+
+// What became of a call: it was carried out; it wrote so many bytes at the front of the output; the
+// refusal.
+pub enum Outcome {
+    Done,
+    Wrote(usize),
+    Refused(Refusal),
+}
+
+// A call's answer: what became of it, and what the card sends.
+pub struct Reply {
+    pub outcome: Outcome,
+    pub sent: Sent,
+}
+
+// The next record and the answer.
+pub struct Stepped {
+    pub card: Card,
+    pub reply: Reply,
+}
+
+// Everything that can happen to a made card.
+pub enum Call {
+    Frame,
+    BlockIn,
+    BlockOut,
+    WorkDone,
+    PowerOn,
+}
+
+// A refused call that changes nothing.
+pub fn refuse(card: Card, refusal: Refusal) -> Stepped
+    ensures answer { λ r. ⌜ r ≡ refused card refusal ⌝ }
+{
+    Stepped {
+        card,
+        reply: Reply {
+            outcome: Outcome::Refused(refusal),
+            sent: Sent::Nothing,
+        },
+    }
+}
+
+// A call that is carried out and sends nothing.
+pub fn done(card: Card) -> Stepped
+    ensures answer { λ r. ⌜ r ≡ done card ⌝ }
+{
+    Stepped {
+        card,
+        reply: Reply {
+            outcome: Outcome::Done,
+            sent: Sent::Nothing,
+        },
+    }
+}
+
+// One call, whichever it is. A frame and a block in are in `input`; a block out goes to `out`.
+pub fn step(
+    card: Card,
+    call: Call,
+    input: &[u8],
+    memory: &mut [u8],
+    map: &mut [u8],
+    out: &mut [u8],
+) -> Stepped
+    ensures answer { λ r. ⌜ r ≡ stepOf card call (now (input .entry)) (length (now (memory .entry))) (now (map .entry)) (length (now (out .entry))) ⌝ }
+    ensures memory { λ _. ⌜ now (memory .exit) ≡ memoryOf card call (now (input .entry)) (now (memory .entry)) (now (map .entry)) ⌝ }
+    ensures map { λ _. ⌜ now (map .exit) ≡ mapOf card call (now (input .entry)) (length (now (memory .entry))) (now (map .entry)) ⌝ }
+    ensures output { λ _. ⌜ now (out .exit) ≡ outputOf card call (now (memory .entry)) (now (map .entry)) (now (out .entry)) ⌝ }
+{
+    match call {
+        Call::Frame => frame::frame(card, input, memory, map),
+        Call::BlockIn => block_in::block_in(card, input, memory, map),
+        Call::BlockOut => block_out::block_out(card, memory, map, out),
+        Call::WorkDone => done(record::work_done(card)),
+        Call::PowerOn => done(record::power_on(card)),
+    }
+}

@@ -1,0 +1,252 @@
+// How a card takes a command (document 01, "How a card takes a frame" and "Reading, writing,
+// erasing, locking"): a command is an index and an argument, however it came in. What a command
+// does to a card stands in obey.rt; which commands are taken, what they answer and which error
+// bits they clear, as MMC mode has it, stands here. No call has a `requires`.
+//
+// Offers: `Met`, `Sent`, `Change`, `Commanded`, `command`; `passes_lock`, `judge`, `obey`,
+// `change_of`.
+mod obey;
+
+use moves::Asked;
+use moves::Move;
+use moves::Row;
+use record::Link;
+use states::Column;
+use status::ErrorBit;
+use status::Errors;
+use status::Fault;
+use tags::Tagging;
+ghost use mathlib.Core.Path.{_≡_};
+ghost use Rattle.command.specs.Answers.{Response, responseOf, sentOf, leftOf, answered, silent};
+ghost use Rattle.command.specs.Command.{resetTold, concluded, takenOf, movedBy, commandOf};
+
+// What a command meets at a card beside the link: the OCR, the size in protection groups, the lock
+// flag, and whether the card would win the line in CMD2.
+pub struct Met {
+    pub ocr: u32,
+    pub groups: u16,
+    pub locked: bool,
+    pub wins: bool,
+}
+
+// What a card sends: nothing, R1, R2 with the CID or the CSD, R3.
+pub enum Sent {
+    Nothing,
+    Status { index: u8, status: u32 },
+    Cid,
+    Csd,
+    Ocr,
+}
+
+// What a command changes in what is lent: nothing; a protection group set or cleared; the tagged
+// sectors, erased.
+pub enum Change {
+    Nothing,
+    Protect { group: u32, on: bool },
+    Erase,
+}
+
+// What a command leaves: the link, what is sent, and what is to change in what is lent.
+pub struct Commanded {
+    pub link: Link,
+    pub sent: Sent,
+    pub change: Change,
+}
+
+// The column "Answer" of the table of moves.
+pub enum Response {
+    Nothing,
+    R1,
+    R2,
+    R3,
+}
+
+fn response_of(row: Row) -> Response
+    ensures { λ r. ⌜ r ≡ responseOf row ⌝ }
+{
+    match row {
+        Row::GoIdleState => Response::Nothing,
+        Row::OpCondAsked => Response::R3,
+        Row::OpCondShared => Response::R3,
+        Row::OpCondApart => Response::Nothing,
+        Row::AllSendCidWon => Response::R2,
+        Row::AllSendCidLost => Response::Nothing,
+        Row::SetRelativeAddr => Response::R1,
+        Row::SetDsr => Response::Nothing,
+        Row::SelectCard => Response::R1,
+        Row::DeselectCard => Response::Nothing,
+        Row::SendRegister => Response::R2,
+        Row::StopTransmission => Response::R1,
+        Row::SendStatus => Response::R1,
+        Row::GoInactiveState => Response::Nothing,
+        Row::SetOrTag => Response::R1,
+        Row::Read => Response::R1,
+        Row::Write => Response::R1,
+        Row::Program => Response::R1,
+        Row::OtherAddress => Response::Nothing,
+        Row::Unsupported => Response::Nothing,
+    }
+}
+
+// A register by the index of the command: CMD9 sends the CSD, CMD2 and 10 the CID.
+fn register(index: u8) -> Sent
+    ensures { λ r. ⌜ r ≡ registerSent index ⌝ }
+{
+    if index == 9 {
+        return Sent::Csd;
+    }
+    Sent::Cid
+}
+
+fn sent(response: Response, index: u8, status: u32) -> Sent
+    ensures { λ r. ⌜ r ≡ sentOf response index status ⌝ }
+{
+    match response {
+        Response::Nothing => Sent::Nothing,
+        Response::R1 => Sent::Status { index, status },
+        Response::R2 => register(index),
+        Response::R3 => Sent::Ocr,
+    }
+}
+
+// The error bits that a taken command leaves pending: R1 clears all that it reports.
+fn left(response: Response, errors: Errors) -> Errors
+    ensures { λ r. ⌜ r ≡ leftOf response errors ⌝ }
+{
+    match response {
+        Response::Nothing => status::taken(errors),
+        Response::R1 => status::none(),
+        Response::R2 => status::taken(errors),
+        Response::R3 => status::taken(errors),
+    }
+}
+
+// A command that is not taken, or is silent and reports nothing.
+fn silent(link: Link) -> Commanded
+    ensures { λ r. ⌜ r ≡ silent link ⌝ }
+{
+    Commanded {
+        link,
+        sent: Sent::Nothing,
+        change: Change::Nothing,
+    }
+}
+
+// The error bits with 13 where the command drops tags.
+fn reset_told(link: Link, index: u8) -> Errors
+    ensures { λ r. ⌜ r ≡ resetTold link index ⌝ }
+{
+    if !obey::drops_tags(index) {
+        return link.errors;
+    }
+    if !tags::any(link.tags) {
+        return link.errors;
+    }
+    status::set(link.errors, ErrorBit::EraseReset)
+}
+
+// What a taken command answers, from the state in which it came, and what it leaves.
+fn answer(
+    link: Link,
+    errors: Errors,
+    response: Response,
+    index: u8,
+    locked: bool,
+    on: Column,
+    change: Change,
+) -> Commanded
+    ensures { λ r. ⌜ r ≡ answered link errors response index locked on change ⌝ }
+{
+    let status = status::word(errors, locked, on);
+    Commanded {
+        link: Link {
+            errors: left(response, errors),
+            ..link
+        },
+        sent: sent(response, index, status),
+        change,
+    }
+}
+
+// A taken command after checks 5 and 6: with a fault it only reports, else it is obeyed.
+fn conclude(
+    link: Link,
+    met: Met,
+    asked: Asked,
+    row: Row,
+    column: Column,
+    judged: Tagging,
+) -> Commanded
+    ensures { λ r. ⌜ r ≡ concluded link met asked row column (judged .tags) (judged .error) ⌝ }
+{
+    let index = asked.index;
+    let argument = asked.argument;
+    let on = states::column_of(link.state);
+    let response = response_of(row);
+    let errors = reset_told(link, index);
+    let fault = judged.error;
+    match fault {
+        Fault::None => {
+            let next = obey::obey(link, index, argument, column, judged.tags);
+            answer(
+                next,
+                errors,
+                response,
+                index,
+                met.locked,
+                on,
+                obey::change_of(index, argument),
+            )
+        }
+        Fault::Bit(bit) => {
+            let next = Link {
+                tags: judged.tags,
+                ..link
+            };
+            answer(
+                next,
+                status::set(errors, bit),
+                response,
+                index,
+                met.locked,
+                on,
+                Change::Nothing,
+            )
+        }
+    }
+}
+
+// A command that has a legal move to a column.
+fn take(link: Link, met: Met, asked: Asked, row: Row, column: Column) -> Commanded
+    ensures { λ r. ⌜ r ≡ takenOf link met asked row column ⌝ }
+{
+    if asked.index == 0 {
+        return silent(record::fresh());
+    }
+    let judged = obey::judge(link, met.groups, met.locked, asked.index, asked.argument);
+    conclude(link, met, asked, row, column, judged)
+}
+
+// A command at a card, from check 1 on.
+pub fn command(link: Link, met: Met, index: u8, argument: u32) -> Commanded
+    ensures answer { λ r. ⌜ r ≡ commandOf link met index argument ⌝ }
+{
+    let asked = Asked {
+        index,
+        argument,
+        address: link.address,
+        ocr: met.ocr,
+        wins: met.wins,
+    };
+    let row = moves::row_of(asked);
+    let next = moves::next(row, states::column_of(link.state));
+    match next {
+        Move::Ignored => silent(link),
+        Move::Silent => silent(link),
+        Move::Illegal => silent(Link {
+            errors: status::set(link.errors, ErrorBit::IllegalCommand),
+            ..link
+        }),
+        Move::To(column) => take(link, met, asked, row, column),
+    }
+}
