@@ -136,9 +136,13 @@ pub fn work_done(card: Card) -> Card
     ensures answer { λ r. ⌜ r ≡ worked card ⌝ }
 {
     let link = card.link;
-    let state = worked_state(link.state);
+    let state = link.state;
+    let next = worked_state(state);
     Card {
-        link: Link { state, ..link },
+        link: Link {
+            state: next,
+            ..link
+        },
         ..card
     }
 }
