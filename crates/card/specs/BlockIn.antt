@@ -8,12 +8,10 @@ use lib.ListN.{length, take, replicate}
 use Rattle.base.specs.Choice.{unless}
 use Rattle.base.specs.Refusals.{by}
 use Rattle.base.specs.declared.Refusal.{Refusal}
-use Rattle.card.specs.Replies.{replied, refused}
+use Rattle.card.specs.Replies.{refused, done}
 use Rattle.card.specs.declared.BlockJudged.{BlockJudged}
-use Rattle.card.specs.declared.Outcome.the-variants.{Done}
 use Rattle.card.specs.declared.Storing.{Storing}
 use Rattle.card.specs.declared.Storing.the-variants.{Nothing, Sector, All}
-use Rattle.command.specs.declared.Sent.the-variants.{Nothing as Unsent}
 use Rattle.crc.specs.Crc.{crc16}
 use Rattle.lock.specs.Requests.{requestOf}
 use Rattle.lock.specs.declared.Answer.{Answer}
@@ -26,7 +24,8 @@ use Rattle.states.specs.declared.Incoming.the-variants.{One, Many, LockRequest}
 use Rattle.states.specs.declared.State.{State}
 use Rattle.states.specs.declared.State.the-variants.{Idle, Ready, Ident, Stby, Tran, Data, Rcv, Prg, Dis, Ina}
 use Rattle.status.specs.ErrorBits.{errorBit}
-use Rattle.status.specs.Status.{withFault}
+use Rattle.status.specs.Status.{withBit}
+use Rattle.status.specs.declared.Errors.{Errors}
 use Rattle.status.specs.declared.Fault.{Fault}
 use Rattle.status.specs.declared.Fault.the-variants.{None, Bit}
 use Rattle.store.specs.Map.{lentRight, protectedIn, mapCleared}
@@ -53,11 +52,16 @@ afterRefused (One at) = Tran
 afterRefused (Many at) = Rcv (Many at)
 afterRefused LockRequest = Tran
 
--- after a good one: "CMD24 goes to prg, CMD25 stays and moves on 512"; "Granted goes to prg"
-abbrev pub afterGood : Incoming → State
-afterGood (One at) = Prg
-afterGood (Many at) = Rcv (Many (sectorAt at * 512 + 512))
-afterGood LockRequest = Prg
+-- after a block that is stored, with the address behind it: "CMD24 goes to prg, CMD25 stays and moves on 512"
+abbrev pub afterStored : Incoming → ℕ → State
+afterStored (One at) next = Prg
+afterStored (Many at) next = Rcv (Many next)
+afterStored LockRequest next = Prg
+
+-- the error bits with that of a fault set, where there is one
+abbrev pub withFault : Errors → Fault → Errors
+withFault errors None = errors
+withFault errors (Bit bit) = withBit errors bit
 
 -- a refused block with the error bit that it sets, if any: "Refused 16, 18 and 19 set bits 29, 31, 26; 17 sets none"; "16 sets bit 29, 20
 -- sets 24". Nothing is stored
@@ -68,31 +72,33 @@ blockRefused card incoming refusal fault =
       storing = Nothing;
     }
 
--- a good block, and what is to be stored
-unfoldable pub blockGood : Card → Incoming → Storing → BlockJudged
-blockGood card incoming storing =
-    record { stepped = replied (withLink card (withState (card .link) (afterGood incoming))) Done Unsent; storing = storing }
+-- a good block: the state that it leads to, and what is to be stored
+unfoldable pub blockGood : Card → State → Storing → BlockJudged
+blockGood card state storing = record { stepped = done (withLink card (withState (card .link) state)); storing = storing }
 
 -- a write's block: 18, 19, and else "A good block is stored"
 unfoldable pub writeJudged : Card → Incoming → ℕ → List ℕ → BlockJudged
 writeJudged card incoming sector map =
     unless (ltb sector (sizeOf (card .registers .groups) / 512)) (blockRefused card incoming (by 18) (Bit (errorBit 31)))
     (unless (not (protectedIn map (csdProtects (card .registers .csd)) sector)) (blockRefused card incoming (by 19) (Bit (errorBit 26)))
-    (blockGood card incoming (Sector sector)))
+    (blockGood card (afterStored incoming (sector * 512 + 512)) (Sector sector)))
 
--- a lock request's block: 20 where it failed; "Forced erase .. fills memory, clears the map"
+-- a lock request's block: 20 where it failed; "Granted goes to prg"; "Forced erase .. fills memory, clears the map"
 abbrev pub lockJudged : Card → Lock → Answer → BlockJudged
-lockJudged card lock Granted = blockGood (withLock card lock) LockRequest Nothing
-lockJudged card lock Erased = blockGood (withLock card lock) LockRequest All
+lockJudged card lock Granted = blockGood (withLock card lock) Prg Nothing
+lockJudged card lock Erased = blockGood (withLock card lock) Prg All
 lockJudged card lock Failed = blockRefused card LockRequest (by 20) (Bit (errorBit 24))
+
+unfoldable pub requestJudged : Card → List ℕ → BlockJudged
+requestJudged card payload =
+    lockJudged card (requestOf (card .lock) payload (csdProtects (card .registers .csd)) .lock)
+    (requestOf (card .lock) payload (csdProtects (card .registers .csd)) .answer)
 
 -- what a block of the right length with the right CRC16 does
 abbrev pub carriedOut : Card → Incoming → List ℕ → List ℕ → BlockJudged
 carriedOut card (One at) payload map = writeJudged card (One at) (sectorAt at) map
 carriedOut card (Many at) payload map = writeJudged card (Many at) (sectorAt at) map
-carriedOut card LockRequest payload map =
-    lockJudged card (requestOf (card .lock) payload (csdProtects (card .registers .csd)) .lock)
-    (requestOf (card .lock) payload (csdProtects (card .registers .csd)) .answer)
+carriedOut card LockRequest payload map = requestJudged card payload
 
 -- 16 and 17 of an awaited block
 unfoldable pub awaitedJudged : Card → Incoming → List ℕ → List ℕ → BlockJudged

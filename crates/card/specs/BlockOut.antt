@@ -44,22 +44,28 @@ unfoldable pub outGood : Card → State → ℕ → Sending → OutJudged
 outGood card state n sending =
     record { stepped = replied (withLink card (withState (card .link) state)) (Wrote (n + beside)) Unsent; sending = sending }
 
+-- after a block that goes out, with the address behind it: "After CMD17's block the card is in tran. CMD18 moves on by one block"; the
+-- protection bits are read "as CMD17"
+abbrev pub afterSent : Outgoing → ℕ → State
+afterSent (One at) next = Tran
+afterSent (Many at) next = Data (Many next)
+afterSent (Bits group) next = Tran
+
 -- n bytes of memory from an address on: 6, 18, 21
-unfoldable pub partJudged : Card → State → ℕ → ℕ → ℕ → OutJudged
-partJudged card state at n room =
+unfoldable pub partJudged : Card → Outgoing → ℕ → ℕ → ℕ → OutJudged
+partJudged card outgoing at n room =
     unless (leb (n + beside) room) (unsent card (by 6))
     (unless (leb (at + n) (sizeOf (card .registers .groups))) (outRefused card (by 18) (errorBit 31))
-    (unless (not (crosses at n)) (outRefused card (by 21) (errorBit 30)) (outGood card state n (Part at n))))
+    (unless (not (crosses at n)) (outRefused card (by 21) (errorBit 30)) (outGood card (afterSent outgoing (at + n)) n (Part at n))))
 
 -- "CMD30: 32 bits as 4 bytes .. then as CMD17, without 18 and 21": 6
 unfoldable pub protectionJudged : Card → ℕ → ℕ → OutJudged
 protectionJudged card group room = unless (leb (4 + beside) room) (unsent card (by 6)) (outGood card Tran 4 (Protection group))
 
--- "After CMD17's block the card is in tran. CMD18 moves on by one block"
+-- what is to go out: "one block" of the block length, or the protection bits
 abbrev pub outgoingJudged : Card → Outgoing → ℕ → OutJudged
-outgoingJudged card (One at) room = partJudged card Tran at (lengthRead (card .link .length)) room
-outgoingJudged card (Many at) room =
-    partJudged card (Data (Many (at + lengthRead (card .link .length)))) at (lengthRead (card .link .length)) room
+outgoingJudged card (One at) room = partJudged card (One at) at (lengthRead (card .link .length)) room
+outgoingJudged card (Many at) room = partJudged card (Many at) at (lengthRead (card .link .length)) room
 outgoingJudged card (Bits group) room = protectionJudged card group room
 
 -- 15: "none is to be read"

@@ -1,21 +1,24 @@
-// One card at its socket's own calls (document 01, "How a card takes a frame" and "Reading, writing,
-// erasing, locking"): a frame, a block in, a block out, work done and power-on, and the one step
-// that is any of them. Each judges by value, from the record, the input, the map and the lengths of
-// the rest, and then changes what is lent. No call has a `requires`.
+// One card at its own calls (document 01, "How a card takes a frame" and "Reading, writing, erasing,
+// locking"): a frame, a block in, a block out, work done and power-on, and the one step that is any
+// of them. Each judges by value, from the record, the input, the map and the lengths of the rest,
+// and then changes what is lent. No call has a `requires`.
 //
 // Offers: `Outcome`, `Reply`, `Stepped`; `frame`, `block_in`, `block_out`; `Call`, `step`;
 // `write_sent`.
 mod block_in;
 mod block_out;
 mod frame;
-mod sent;
+mod reply;
 
 use base::Refusal;
+use block_in::block_in;
+use block_out::block_out;
 use command::Sent;
+use frame::frame;
 use record::Card;
+use reply::done;
 ghost use mathlib.Core.Path.{_≡_};
 ghost use lib.ListN.{length};
-ghost use Rattle.card.specs.Replies.{refused, done};
 ghost use Rattle.card.specs.Step.{stepOf, memoryOf, mapOf, outputOf};
 
 // What became of a call: it was carried out; it wrote so many bytes at the front of the output; the
@@ -47,32 +50,6 @@ pub enum Call {
     PowerOn,
 }
 
-// A refused call that changes nothing.
-pub fn refuse(card: Card, refusal: Refusal) -> Stepped
-    ensures answer { λ r. ⌜ r ≡ refused card refusal ⌝ }
-{
-    Stepped {
-        card,
-        reply: Reply {
-            outcome: Outcome::Refused(refusal),
-            sent: Sent::Nothing,
-        },
-    }
-}
-
-// A call that is carried out and sends nothing.
-pub fn done(card: Card) -> Stepped
-    ensures answer { λ r. ⌜ r ≡ done card ⌝ }
-{
-    Stepped {
-        card,
-        reply: Reply {
-            outcome: Outcome::Done,
-            sent: Sent::Nothing,
-        },
-    }
-}
-
 // One call, whichever it is. A frame and a block in are in `input`; a block out goes to `out`.
 pub fn step(
     card: Card,
@@ -88,9 +65,9 @@ pub fn step(
     ensures output { λ _. ⌜ now (out .exit) ≡ outputOf card call (now (memory .entry)) (now (map .entry)) (now (out .entry)) ⌝ }
 {
     match call {
-        Call::Frame => frame::frame(card, input, memory, map),
-        Call::BlockIn => block_in::block_in(card, input, memory, map),
-        Call::BlockOut => block_out::block_out(card, memory, map, out),
+        Call::Frame => frame(card, input, memory, map),
+        Call::BlockIn => block_in(card, input, memory, map),
+        Call::BlockOut => block_out(card, memory, map, out),
         Call::WorkDone => done(record::work_done(card)),
         Call::PowerOn => done(record::power_on(card)),
     }

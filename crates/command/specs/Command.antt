@@ -13,7 +13,7 @@ use Rattle.moves.specs.declared.Row.{Row}
 use Rattle.record.specs.Power.{freshLink}
 use Rattle.record.specs.Record.{withErrors, withTags}
 use Rattle.record.specs.declared.Link.{Link}
-use Rattle.states.specs.States.{columnOf}
+use Rattle.states.specs.States.{columnOf, numberOf}
 use Rattle.states.specs.declared.Column.{Column}
 use Rattle.status.specs.ErrorBits.{errorBit}
 use Rattle.status.specs.Status.{withBit}
@@ -33,6 +33,10 @@ use Rattle.command.specs.declared.Met.{Met}
 abbrev pub askedOf : Link → Met → ℕ → ℕ → Asked
 askedOf link met index argument =
     record { index = index; argument = argument; address = link .address; ocr = met .ocr; wins = met .wins }
+
+-- check 2: "CRC7 wrong: silent, bit 23 set", and "3 sets bit 23 of the card .. unless Inactive"
+unfoldable pub damagedLink : Link → Link
+damagedLink link = pick (eqb (numberOf (columnOf (link .state))) 9) link (withErrors link (withBit (link .errors) (errorBit 23)))
 
 -- the pending error bits, with 13 where the command "drops existing tags and sets bit 13"
 unfoldable pub resetTold : Link → ℕ → Errors

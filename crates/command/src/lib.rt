@@ -3,8 +3,8 @@
 // does to a card stands in obey.rt; which commands are taken, what they answer and which error
 // bits they clear, as MMC mode has it, stands here. No call has a `requires`.
 //
-// Offers: `Met`, `Sent`, `Change`, `Commanded`, `command`; `passes_lock`, `judge`, `obey`,
-// `change_of`.
+// Offers: `Met`, `Sent`, `Change`, `Commanded`, `command`; `damaged`;
+// `passes_lock`, `judge`, `obey`, `change_of`.
 mod obey;
 
 use moves::Asked;
@@ -17,8 +17,8 @@ use status::Errors;
 use status::Fault;
 use tags::Tagging;
 ghost use mathlib.Core.Path.{_≡_};
-ghost use Rattle.command.specs.Answers.{Response, responseOf, sentOf, leftOf, answered, silent};
-ghost use Rattle.command.specs.Command.{resetTold, concluded, takenOf, movedBy, commandOf};
+ghost use Rattle.command.specs.Answers.{responseOf, registerSent, sentOf, leftOf, answered, silent};
+ghost use Rattle.command.specs.Command.{damagedLink, resetTold, concluded, takenOf, movedBy, commandOf};
 
 // What a command meets at a card beside the link: the OCR, the size in protection groups, the lock
 // flag, and whether the card would win the line in CMD2.
@@ -132,6 +132,21 @@ fn silent(link: Link) -> Commanded
     }
 }
 
+// Check 2: what a frame with a wrong CRC7 leaves at a card.
+pub fn damaged(link: Link) -> Link
+    ensures answer { λ r. ⌜ r ≡ damagedLink link ⌝ }
+{
+    let state = link.state;
+    let on = states::column_of(state);
+    if states::number(on) == 9 {
+        return link;
+    }
+    Link {
+        errors: status::set(link.errors, ErrorBit::ComCrcError),
+        ..link
+    }
+}
+
 // The error bits with 13 where the command drops tags.
 fn reset_told(link: Link, index: u8) -> Errors
     ensures { λ r. ⌜ r ≡ resetTold link index ⌝ }
@@ -181,7 +196,8 @@ fn conclude(
 {
     let index = asked.index;
     let argument = asked.argument;
-    let on = states::column_of(link.state);
+    let state = link.state;
+    let on = states::column_of(state);
     let response = response_of(row);
     let errors = reset_told(link, index);
     let fault = judged.error;
@@ -239,7 +255,8 @@ pub fn command(link: Link, met: Met, index: u8, argument: u32) -> Commanded
         wins: met.wins,
     };
     let row = moves::row_of(asked);
-    let next = moves::next(row, states::column_of(link.state));
+    let state = link.state;
+    let next = moves::next(row, states::column_of(state));
     match next {
         Move::Ignored => silent(link),
         Move::Silent => silent(link),

@@ -235,8 +235,9 @@ fn length_after(index: u8, argument: u32, length: u16) -> u16
 pub fn obey(link: Link, index: u8, argument: u32, column: Column, tags: Tags) -> Link
     ensures answer { λ r. ⌜ r ≡ obeyed link index argument column tags ⌝ }
 {
+    let state = link.state;
     Link {
-        state: state_at(column, awaited_by(index, argument, link.state)),
+        state: state_at(column, awaited_by(index, argument, state)),
         address: address_after(index, argument, link.address),
         length: length_after(index, argument, link.length),
         errors: link.errors,

@@ -1,0 +1,260 @@
+// A block in: 12, 15, 16, 17, 18, 19 or 20. Judging gives the payload of a write as an array beside
+// its answer; storing takes that array.
+use crate::Stepped;
+use crate::reply::done;
+use crate::reply::refuse;
+use base::Refusal;
+use lock::Answer;
+use record::Card;
+use record::Link;
+use states::Incoming;
+use states::State;
+use status::ErrorBit;
+use status::Errors;
+use status::Fault;
+use wire::Checked;
+ghost use mathlib.Core.Path.{_≡_};
+ghost use lib.ListN.{length};
+ghost use Rattle.card.specs.BlockIn.{awaitedLength, afterRefused, afterStored, withFault, blockRefused, blockGood, writeJudged, requestJudged, carriedOut, awaitedJudged, unread, stateJudged, blockJudged, keptOf, storedBy, clearedBy};
+
+// What a block is to change in what is lent: nothing; a sector, written; everything, erased.
+pub enum Storing {
+    Nothing,
+    Sector(u32),
+    All,
+}
+
+// A block judged: the answer, and what is to be stored.
+pub struct BlockJudged {
+    pub stepped: Stepped,
+    pub storing: Storing,
+}
+
+// The bytes that are awaited.
+fn awaited_length(card: Card, incoming: Incoming) -> usize
+    ensures answer { λ r. ⌜ r ≡ awaitedLength card incoming ⌝ }
+{
+    match incoming {
+        Incoming::One(_) => 512,
+        Incoming::Many(_) => 512,
+        Incoming::LockRequest => record::read_length(card.link.length) as usize,
+    }
+}
+
+fn after_refused(incoming: Incoming) -> State
+    ensures { λ r. ⌜ r ≡ afterRefused incoming ⌝ }
+{
+    match incoming {
+        Incoming::One(_) => State::Tran,
+        Incoming::Many(at) => State::Rcv(Incoming::Many(at)),
+        Incoming::LockRequest => State::Tran,
+    }
+}
+
+// The state after a block that is stored, with the address behind it.
+fn after_stored(incoming: Incoming, next: u32) -> State
+    ensures { λ r. ⌜ r ≡ afterStored incoming next ⌝ }
+{
+    match incoming {
+        Incoming::One(_) => State::Prg,
+        Incoming::Many(_) => State::Rcv(Incoming::Many(next)),
+        Incoming::LockRequest => State::Prg,
+    }
+}
+
+fn with_fault(errors: Errors, fault: Fault) -> Errors
+    ensures { λ r. ⌜ r ≡ withFault errors fault ⌝ }
+{
+    match fault {
+        Fault::None => errors,
+        Fault::Bit(bit) => status::set(errors, bit),
+    }
+}
+
+// A refused block: the move and the error bit that document 01 gives it, and nothing stored.
+fn block_refused(card: Card, incoming: Incoming, refusal: Refusal, fault: Fault) -> BlockJudged
+    ensures { λ r. ⌜ r ≡ blockRefused card incoming refusal fault ⌝ }
+{
+    let link = card.link;
+    let state = after_refused(incoming);
+    let next = Card {
+        link: Link {
+            state,
+            errors: with_fault(link.errors, fault),
+            ..link
+        },
+        ..card
+    };
+    BlockJudged {
+        stepped: refuse(next, refusal),
+        storing: Storing::Nothing,
+    }
+}
+
+// A good block: the state that it leads to, and what is to be stored.
+fn block_good(card: Card, state: State, storing: Storing) -> BlockJudged
+    ensures { λ r. ⌜ r ≡ blockGood card state storing ⌝ }
+{
+    let link = card.link;
+    let next = Card {
+        link: Link { state, ..link },
+        ..card
+    };
+    BlockJudged {
+        stepped: done(next),
+        storing,
+    }
+}
+
+// A write's block: 18, 19.
+fn write_judged(card: Card, incoming: Incoming, sector: u32, map: &[u8]) -> BlockJudged
+    ensures { λ r. ⌜ r ≡ writeJudged card incoming sector (now (map .entry)) ⌝ }
+{
+    if record::size(card.registers.groups) / 512 <= sector {
+        return block_refused(
+            card,
+            incoming,
+            Refusal::PastEnd,
+            Fault::Bit(ErrorBit::OutOfRange),
+        );
+    }
+    let whole = record::csd_protects(card.registers.csd);
+    if store::protected(map, sector, whole) {
+        return block_refused(
+            card,
+            incoming,
+            Refusal::Protected,
+            Fault::Bit(ErrorBit::WpViolation),
+        );
+    }
+    let state = after_stored(incoming, sector * 512 + 512);
+    block_good(card, state, Storing::Sector(sector))
+}
+
+// A lock request's block: 20.
+fn lock_judged(card: Card, payload: &[u8]) -> BlockJudged
+    ensures { λ r. ⌜ r ≡ requestJudged card (now (payload .entry)) ⌝ }
+{
+    let whole = record::csd_protects(card.registers.csd);
+    let requested = lock::request(card.lock, payload, whole);
+    let next = Card {
+        lock: requested.lock,
+        ..card
+    };
+    let answer = requested.answer;
+    match answer {
+        Answer::Granted => block_good(next, State::Prg, Storing::Nothing),
+        Answer::Erased => block_good(next, State::Prg, Storing::All),
+        Answer::Failed => block_refused(
+            card,
+            Incoming::LockRequest,
+            Refusal::LockFailed,
+            Fault::Bit(ErrorBit::LockUnlockFailed),
+        ),
+    }
+}
+
+// What a block of the right length with the right CRC16 does.
+fn carried_out(card: Card, incoming: Incoming, payload: &[u8], map: &[u8]) -> BlockJudged
+    ensures { λ r. ⌜ r ≡ carriedOut card incoming (now (payload .entry)) (now (map .entry)) ⌝ }
+{
+    match incoming {
+        Incoming::One(at) => write_judged(card, incoming, at / 512, map),
+        Incoming::Many(at) => write_judged(card, incoming, at / 512, map),
+        Incoming::LockRequest => lock_judged(card, payload),
+    }
+}
+
+// An awaited block: 16, 17.
+fn awaited_judged(card: Card, incoming: Incoming, block: &[u8], map: &[u8]) -> BlockJudged
+    ensures { λ r. ⌜ r ≡ awaitedJudged card incoming (now (block .entry)) (now (map .entry)) ⌝ }
+{
+    let n = awaited_length(card, incoming);
+    if block.len() != n + 2 {
+        return block_refused(
+            card,
+            incoming,
+            Refusal::BlockLength,
+            Fault::Bit(ErrorBit::BlockLenError),
+        );
+    }
+    let checked = wire::check_block(block);
+    match checked {
+        Checked::Payload(_) => carried_out(card, incoming, &block[0..n], map),
+        Checked::Refused(_) => block_refused(card, incoming, Refusal::BlockCrc, Fault::None),
+    }
+}
+
+fn unread(card: Card, refusal: Refusal) -> BlockJudged
+    ensures { λ r. ⌜ r ≡ unread card refusal ⌝ }
+{
+    BlockJudged {
+        stepped: refuse(card, refusal),
+        storing: Storing::Nothing,
+    }
+}
+
+// A block in judged: memory's contents are no argument, its length is. 12, 15.
+fn judge(card: Card, block: &[u8], memory: usize, map: &[u8]) -> BlockJudged
+    ensures { λ r. ⌜ r ≡ blockJudged card (now (block .entry)) memory (now (map .entry)) ⌝ }
+{
+    if !store::lent_right(memory, map, card.registers.groups as usize) {
+        return unread(card, Refusal::Lent);
+    }
+    let link = card.link;
+    let state = link.state;
+    match state {
+        State::Idle => unread(card, Refusal::NoBlock),
+        State::Ready => unread(card, Refusal::NoBlock),
+        State::Ident => unread(card, Refusal::NoBlock),
+        State::Stby => unread(card, Refusal::NoBlock),
+        State::Tran => unread(card, Refusal::NoBlock),
+        State::Data(_) => unread(card, Refusal::NoBlock),
+        State::Rcv(incoming) => awaited_judged(card, incoming, block, map),
+        State::Prg => unread(card, Refusal::NoBlock),
+        State::Dis => unread(card, Refusal::NoBlock),
+        State::Ina => unread(card, Refusal::NoBlock),
+    }
+}
+
+// The first 512 bytes of a block: what a write keeps until it is stored.
+fn kept(block: &[u8]) -> [u8; 512]
+    ensures { λ r. ⌜ r ≡ keptOf (now (block .entry)) ⌝ }
+{
+    let mut bytes = [0; 512];
+    let mut i: usize = 0;
+    while i < 512 {
+        if i < block.len() {
+            bytes[i] = block[i];
+        }
+        i += 1;
+    }
+    bytes
+}
+
+// What was judged carried out on the memory and the map.
+fn store(storing: Storing, bytes: [u8; 512], memory: &mut [u8], map: &mut [u8])
+    ensures memory { λ _. ⌜ now (memory .exit) ≡ storedBy bytes (now (memory .entry)) storing ⌝ }
+    ensures map { λ _. ⌜ now (map .exit) ≡ clearedBy (now (map .entry)) storing ⌝ }
+{
+    match storing {
+        Storing::Nothing => {}
+        Storing::Sector(sector) => store::write_sector(memory, sector, &bytes),
+        Storing::All => {
+            store::fill_all(memory);
+            store::clear_map(map);
+        }
+    }
+}
+
+// A block in: judged, and then stored.
+pub fn block_in(card: Card, block: &[u8], memory: &mut [u8], map: &mut [u8]) -> Stepped
+    ensures answer { λ r. ⌜ r ≡ blockJudged card (now (block .entry)) (length (now (memory .entry))) (now (map .entry)) .stepped ⌝ }
+    ensures memory { λ _. ⌜ now (memory .exit) ≡ storedBy (keptOf (now (block .entry))) (now (memory .entry)) (blockJudged card (now (block .entry)) (length (now (memory .entry))) (now (map .entry)) .storing) ⌝ }
+    ensures map { λ _. ⌜ now (map .exit) ≡ clearedBy (now (map .entry)) (blockJudged card (now (block .entry)) (length (now (memory .entry))) (now (map .entry)) .storing) ⌝ }
+{
+    let judged = judge(card, block, memory.len(), map);
+    let storing = judged.storing;
+    store(storing, kept(block), memory, map);
+    judged.stepped
+}

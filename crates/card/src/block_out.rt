@@ -1,0 +1,198 @@
+// A block out: 12, 15, 6, 18, 21.
+use crate::Outcome;
+use crate::Reply;
+use crate::Stepped;
+use crate::reply::refuse;
+use base::Refusal;
+use command::Sent;
+use record::Card;
+use record::Link;
+use states::Outgoing;
+use states::State;
+use status::ErrorBit;
+ghost use mathlib.Core.Path.{_≡_};
+ghost use lib.ListN.{length};
+ghost use Rattle.card.specs.BlockOut.{unsent, outRefused, outGood, afterSent, partJudged, protectionJudged, outgoingJudged, stateSends, outJudged, partSent, protectionSent, sentOut};
+
+// What goes out: nothing; bytes of memory from a place on; the protection bits from a group on.
+pub enum Sending {
+    Nothing,
+    Part { at: u32, length: u16 },
+    Protection(u32),
+}
+
+// A block out judged: the answer, and what goes out.
+pub struct OutJudged {
+    pub stepped: Stepped,
+    pub sending: Sending,
+}
+
+fn unsent(card: Card, refusal: Refusal) -> OutJudged
+    ensures { λ r. ⌜ r ≡ unsent card refusal ⌝ }
+{
+    OutJudged {
+        stepped: refuse(card, refusal),
+        sending: Sending::Nothing,
+    }
+}
+
+// A block that fails stays at its place, with its error bit.
+fn out_refused(card: Card, refusal: Refusal, bit: ErrorBit) -> OutJudged
+    ensures { λ r. ⌜ r ≡ outRefused card refusal bit ⌝ }
+{
+    let link = card.link;
+    unsent(
+        Card {
+            link: Link {
+                errors: status::set(link.errors, bit),
+                ..link
+            },
+            ..card
+        },
+        refusal,
+    )
+}
+
+fn out_good(card: Card, state: State, n: u16, sending: Sending) -> OutJudged
+    ensures { λ r. ⌜ r ≡ outGood card state n sending ⌝ }
+{
+    let link = card.link;
+    OutJudged {
+        stepped: Stepped {
+            card: Card {
+                link: Link { state, ..link },
+                ..card
+            },
+            reply: Reply {
+                outcome: Outcome::Wrote(n as usize + 2),
+                sent: Sent::Nothing,
+            },
+        },
+        sending,
+    }
+}
+
+// The state after a block that goes out, with the address behind it.
+fn after_sent(outgoing: Outgoing, next: u32) -> State
+    ensures { λ r. ⌜ r ≡ afterSent outgoing next ⌝ }
+{
+    match outgoing {
+        Outgoing::One(_) => State::Tran,
+        Outgoing::Many(_) => State::Data(Outgoing::Many(next)),
+        Outgoing::Protection(_) => State::Tran,
+    }
+}
+
+// So many bytes of memory from an address on: 6, 18, 21.
+fn part_judged(card: Card, outgoing: Outgoing, at: u32, n: u16, room: usize) -> OutJudged
+    ensures { λ r. ⌜ r ≡ partJudged card outgoing at n room ⌝ }
+{
+    if room < n as usize + 2 {
+        return unsent(card, Refusal::OutputShort);
+    }
+    let size = record::size(card.registers.groups);
+    if size < n as u32 {
+        return out_refused(card, Refusal::PastEnd, ErrorBit::OutOfRange);
+    }
+    if size - n as u32 < at {
+        return out_refused(card, Refusal::PastEnd, ErrorBit::OutOfRange);
+    }
+    if record::crosses(at, n) {
+        return out_refused(card, Refusal::BlockCrosses, ErrorBit::AddressError);
+    }
+    let state = after_sent(outgoing, at + n as u32);
+    out_good(card, state, n, Sending::Part { at, length: n })
+}
+
+// The protection bits: 6.
+fn protection_judged(card: Card, group: u32, room: usize) -> OutJudged
+    ensures { λ r. ⌜ r ≡ protectionJudged card group room ⌝ }
+{
+    if room < 6 {
+        return unsent(card, Refusal::OutputShort);
+    }
+    out_good(card, State::Tran, 4, Sending::Protection(group))
+}
+
+fn outgoing_judged(card: Card, outgoing: Outgoing, room: usize) -> OutJudged
+    ensures { λ r. ⌜ r ≡ outgoingJudged card outgoing room ⌝ }
+{
+    let n = record::read_length(card.link.length);
+    match outgoing {
+        Outgoing::One(at) => part_judged(card, outgoing, at, n, room),
+        Outgoing::Many(at) => part_judged(card, outgoing, at, n, room),
+        Outgoing::Protection(group) => protection_judged(card, group, room),
+    }
+}
+
+// A block out judged: memory's contents are no argument, its length is. 12, 15.
+fn judge(card: Card, memory: usize, map: &[u8], room: usize) -> OutJudged
+    ensures { λ r. ⌜ r ≡ outJudged card memory (now (map .entry)) room ⌝ }
+{
+    if !store::lent_right(memory, map, card.registers.groups as usize) {
+        return unsent(card, Refusal::Lent);
+    }
+    let link = card.link;
+    let state = link.state;
+    match state {
+        State::Idle => unsent(card, Refusal::NoBlock),
+        State::Ready => unsent(card, Refusal::NoBlock),
+        State::Ident => unsent(card, Refusal::NoBlock),
+        State::Stby => unsent(card, Refusal::NoBlock),
+        State::Tran => unsent(card, Refusal::NoBlock),
+        State::Data(outgoing) => outgoing_judged(card, outgoing, room),
+        State::Rcv(_) => unsent(card, Refusal::NoBlock),
+        State::Prg => unsent(card, Refusal::NoBlock),
+        State::Dis => unsent(card, Refusal::NoBlock),
+        State::Ina => unsent(card, Refusal::NoBlock),
+    }
+}
+
+// A block of memory at the front of the output, where it lies in memory and fits. It is moved in one
+// go and summed where it then stands: that costs less than copying and summing byte by byte.
+fn send_part(memory: &[u8], at: usize, n: usize, out: &mut [u8])
+    ensures { λ _. ⌜ now (out .exit) ≡ partSent (now (memory .entry)) at n (now (out .entry)) ⌝ }
+{
+    if out.len() < 2 {
+        return;
+    }
+    if out.len() - 2 < n {
+        return;
+    }
+    let inside = store::read_part(memory, at, &mut out[0..n]);
+    if !inside {
+        return;
+    }
+    let sum = crc::crc16(&out[0..n]);
+    out[n] = (sum / 256) as u8;
+    out[n + 1] = (sum % 256) as u8;
+}
+
+// The protection bits at the front of the output, where they fit.
+fn send_protection(map: &[u8], group: u32, out: &mut [u8])
+    ensures { λ _. ⌜ now (out .exit) ≡ protectionSent (now (map .entry)) group (now (out .entry)) ⌝ }
+{
+    let bits = store::protection_bits(map, group);
+    let four = [
+        (bits / 16777216) as u8,
+        (bits / 65536 % 256) as u8,
+        (bits / 256 % 256) as u8,
+        (bits % 256) as u8,
+    ];
+    wire::write_block(&four, out);
+}
+
+// A block out: judged, and then sent.
+pub fn block_out(card: Card, memory: &[u8], map: &[u8], out: &mut [u8]) -> Stepped
+    ensures answer { λ r. ⌜ r ≡ outJudged card (length (now (memory .entry))) (now (map .entry)) (length (now (out .entry))) .stepped ⌝ }
+    ensures output { λ _. ⌜ now (out .exit) ≡ sentOut (now (memory .entry)) (now (map .entry)) (now (out .entry)) (outJudged card (length (now (memory .entry))) (now (map .entry)) (length (now (out .entry))) .sending) ⌝ }
+{
+    let judged = judge(card, memory.len(), map, out.len());
+    let sending = judged.sending;
+    match sending {
+        Sending::Nothing => {}
+        Sending::Part { at, length } => send_part(memory, at as usize, length as usize, out),
+        Sending::Protection(group) => send_protection(map, group, out),
+    }
+    judged.stepped
+}
