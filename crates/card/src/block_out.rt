@@ -91,16 +91,17 @@ fn part_judged(card: Card, outgoing: Outgoing, at: u32, n: u16, room: usize) -> 
         return unsent(card, Refusal::OutputShort);
     }
     let size = record::size(card.registers.groups);
-    if size < n as u32 {
+    let more = n as u32;
+    if size < more {
         return out_refused(card, Refusal::PastEnd, ErrorBit::OutOfRange);
     }
-    if size - n as u32 < at {
+    if size - more < at {
         return out_refused(card, Refusal::PastEnd, ErrorBit::OutOfRange);
     }
     if record::crosses(at, n) {
         return out_refused(card, Refusal::BlockCrosses, ErrorBit::AddressError);
     }
-    let state = after_sent(outgoing, at + n as u32);
+    let state = after_sent(outgoing, at + more);
     out_good(card, state, n, Sending::Part { at, length: n })
 }
 

@@ -98,7 +98,7 @@ fn register(index: u8) -> Sent
     Sent::Cid
 }
 
-fn sent(response: Response, index: u8, status: u32) -> Sent
+fn respond(response: Response, index: u8, status: u32) -> Sent
     ensures { λ r. ⌜ r ≡ sentOf response index status ⌝ }
 {
     match response {
@@ -178,7 +178,7 @@ fn answer(
             errors: left(response, errors),
             ..link
         },
-        sent: sent(response, index, status),
+        sent: respond(response, index, status),
         change,
     }
 }
