@@ -200,10 +200,11 @@ fn conclude(
     let on = states::column_of(state);
     let response = response_of(row);
     let errors = reset_told(link, index);
+    let tags = judged.tags;
     let fault = judged.error;
     match fault {
         Fault::None => {
-            let next = obey::obey(link, index, argument, column, judged.tags);
+            let next = obey::obey(link, index, argument, column, tags);
             answer(
                 next,
                 errors,
@@ -215,10 +216,7 @@ fn conclude(
             )
         }
         Fault::Bit(bit) => {
-            let next = Link {
-                tags: judged.tags,
-                ..link
-            };
+            let next = Link { tags, ..link };
             answer(
                 next,
                 status::set(errors, bit),

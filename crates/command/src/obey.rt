@@ -150,16 +150,17 @@ fn erase_tagging(tags: Tags) -> Tagging
 fn tagging(link: Link, size: u32, index: u8, argument: u32) -> Tagging
     ensures { λ r. ⌜ r ≡ taggingOf link size index argument ⌝ }
 {
+    let held = link.tags;
     match index {
         13 => Tagging {
-            tags: link.tags,
+            tags: held,
             error: Fault::None,
         },
         32 => tags::tag_start(Kind::Sectors, argument, size),
-        33 => tags::tag_end(link.tags, Kind::Sectors, argument, size),
+        33 => tags::tag_end(held, Kind::Sectors, argument, size),
         35 => tags::tag_start(Kind::Groups, argument, size),
-        36 => tags::tag_end(link.tags, Kind::Groups, argument, size),
-        38 => erase_tagging(link.tags),
+        36 => tags::tag_end(held, Kind::Groups, argument, size),
+        38 => erase_tagging(held),
         _ => Tagging {
             tags: tags::no_tags(),
             error: argument_fault(index, argument, record::read_length(link.length), size),

@@ -21,7 +21,7 @@ use Rattle.base.specs.Choice.{pick}
 use Rattle.base.proofs.Cases.{cases}
 use Rattle.tags.specs.Tags.{taggedOf}
 use Rattle.tags.specs.declared.Tags.{Tags}
-use Rattle.store.specs.Erase.{erasedSector, sectorsOf, filled, spared, sectorErased, erasedTo, sparedTo, erased, anySpared}
+use Rattle.store.specs.Erase.{erasedSector, sectorsIn, filled, spared, sectorErased, erasedTo, sparedTo, erased, anySpared}
 use Rattle.store.specs.Map.{protectedIn}
 use Rattle.store.specs.Memory.{sectorOf}
 use Rattle.store.proofs.Sectors.{written-length, written-here, written-elsewhere, same-sector, sector-is}
@@ -86,29 +86,29 @@ module _ (m : List ℕ) (t : Tags) (w : Bool) where
 
   pub erased-length : (card : List ℕ) → length (erased m t w card) ≡ length card
   unfolding erased
-  erased-length card = to-length (sectorsOf card) card
+  erased-length card = to-length (sectorsIn (length card)) card
 
-  pub erased-byte : (card : List ℕ) (p : ℕ) → p / 512 < sectorsOf card → getD (erased m t w card) p 0 ≡ pick (filled m t w (p / 512)) 0xFF (getD card p 0)
+  pub erased-byte : (card : List ℕ) (p : ℕ) → p / 512 < sectorsIn (length card) → getD (erased m t w card) p 0 ≡ pick (filled m t w (p / 512)) 0xFF (getD card p 0)
   unfolding erased
   erased-byte card p h =
       cases (filled m t w (p / 512))
-      (λ f. simp f (to-filled (sectorsOf card) p card h (omega arith) f))
-      (λ f. simp f (to-kept (sectorsOf card) p card (λ l. f)))
+      (λ f. simp f (to-filled (sectorsIn (length card)) p card h (omega arith) f))
+      (λ f. simp f (to-kept (sectorsIn (length card)) p card (λ l. f)))
 
-  pub erased-past : (card : List ℕ) (p : ℕ) → sectorsOf card ≤ p / 512 → getD (erased m t w card) p 0 ≡ getD card p 0
+  pub erased-past : (card : List ℕ) (p : ℕ) → sectorsIn (length card) ≤ p / 512 → getD (erased m t w card) p 0 ≡ getD card p 0
   unfolding erased
-  erased-past card p h = to-kept (sectorsOf card) p card (λ l. absurd (omega arith))
+  erased-past card p h = to-kept (sectorsIn (length card)) p card (λ l. absurd (omega arith))
 
-  pub filled-erased : (card : List ℕ) (s : ℕ) → s < sectorsOf card → filled m t w s ≡ true → sectorOf (erased m t w card) s ≡ erasedSector
+  pub filled-erased : (card : List ℕ) (s : ℕ) → s < sectorsIn (length card) → filled m t w s ≡ true → sectorOf (erased m t w card) s ≡ erasedSector
   unfolding erased
   filled-erased card s h f =
       sector-is (erased m t w card) erasedSector s blank-length (omega (arith, erased-length card))
-      (λ p e. to-filled (sectorsOf card) p card (omega arith) (omega arith) (ap (filled m t w) e ∙ f) ∙ sym (blank-byte (p % 512) (omega arith)))
+      (λ p e. to-filled (sectorsIn (length card)) p card (omega arith) (omega arith) (ap (filled m t w) e ∙ f) ∙ sym (blank-byte (p % 512) (omega arith)))
 
   pub others-spared : (card : List ℕ) (s : ℕ) → filled m t w s ≡ false → sectorOf (erased m t w card) s ≡ sectorOf card s
   unfolding erased
   others-spared card s f =
-      same-sector (erased m t w card) card s (erased-length card) (λ p e. to-kept (sectorsOf card) p card (λ l. ap (filled m t w) e ∙ f))
+      same-sector (erased m t w card) card s (erased-length card) (λ p e. to-kept (sectorsIn (length card)) p card (λ l. ap (filled m t w) e ∙ f))
 
   pub protected-kept : (card : List ℕ) (s : ℕ) → protectedIn m w s ≡ true → sectorOf (erased m t w card) s ≡ sectorOf card s
   protected-kept card s h = others-spared card s (simp h (and-false (taggedOf t s)))
@@ -132,14 +132,14 @@ module _ (m : List ℕ) (t : Tags) (w : Bool) where
       let here : spared m t w n ≡ true = simp e at h in
       (n, (omega arith, both-first (taggedOf t n) (protectedIn m w n) here, both-second (taggedOf t n) (protectedIn m w n) here)))
 
-  pub spared-told : (card : List ℕ) (s : ℕ) → s < sectorsOf card → taggedOf t s ≡ true → protectedIn m w s ≡ true → anySpared m t w card ≡ true
+  pub spared-told : (card : List ℕ) (s : ℕ) → s < sectorsIn (length card) → taggedOf t s ≡ true → protectedIn m w s ≡ true → anySpared m t w (length card) ≡ true
   unfolding anySpared
-  spared-told card s l a b = told (sectorsOf card) s l a b
+  spared-told card s l a b = told (sectorsIn (length card)) s l a b
 
-  pub spared-some : (card : List ℕ) → anySpared m t w card ≡ true → (s : ℕ) × ((s < sectorsOf card) × (taggedOf t s ≡ true) × (protectedIn m w s ≡ true))
+  pub spared-some : (card : List ℕ) → anySpared m t w (length card) ≡ true → (s : ℕ) × ((s < sectorsIn (length card)) × (taggedOf t s ≡ true) × (protectedIn m w s ≡ true))
   unfolding anySpared
-  spared-some card h = some (sectorsOf card) h
+  spared-some card h = some (sectorsIn (length card)) h
 
 -- 2^41 bytes are 2^32 sectors
-pub in-a-sector : (card : List ℕ) (p : ℕ) → length card % 512 ≡ 0 → length card ≤ 2199023255552 → p < length card → p / 512 < sectorsOf card
+pub in-a-sector : (card : List ℕ) (p : ℕ) → length card % 512 ≡ 0 → length card ≤ 2199023255552 → p < length card → p / 512 < sectorsIn (length card)
 in-a-sector card p whole most h = omega arith

@@ -15,9 +15,9 @@ use Rattle.store.specs.Memory.{sectorWritten}
 unfoldable pub erasedSector : List ℕ
 erasedSector = replicate 512 0xFF
 
--- the whole sectors of the contents, which have numbers of 32 bits
-abbrev pub sectorsOf : List ℕ → ℕ
-sectorsOf card = min (length card / 512) 4294967296
+-- the whole sectors of so many bytes, which have numbers of 32 bits
+abbrev pub sectorsIn : ℕ → ℕ
+sectorsIn bytes = min (bytes / 512) 4294967296
 
 -- filled: tagged, and outside protection; spared: tagged, and protected
 abbrev pub filled : List ℕ → Tags → Bool → ℕ → Bool
@@ -41,10 +41,11 @@ sparedTo map tags whole (suc n) = sparedTo map tags whole n || spared map tags w
 
 -- an erase: each sector of the contents
 unfoldable pub erased : List ℕ → Tags → Bool → List ℕ → List ℕ
-erased map tags whole card = erasedTo map tags whole (sectorsOf card) card
+erased map tags whole card = erasedTo map tags whole (sectorsIn (length card)) card
 
-unfoldable pub anySpared : List ℕ → Tags → Bool → List ℕ → Bool
-anySpared map tags whole card = sparedTo map tags whole (sectorsOf card)
+-- whether one is spared: of the contents only their length matters
+unfoldable pub anySpared : List ℕ → Tags → Bool → ℕ → Bool
+anySpared map tags whole bytes = sparedTo map tags whole (sectorsIn bytes)
 
 -- sectors outside which nothing is tagged: from the first on, the end not among them
 pub record Spans (tags : Tags) (first end : ℕ) : Type 0 where

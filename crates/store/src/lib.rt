@@ -273,7 +273,7 @@ fn erase_sector(
 // Every tagged sector outside protection erased. The answer is whether any was spared. Only the
 // sectors that the tags reach are looked at.
 pub fn erase(memory: &mut [u8], map: &[u8], tags: Tags, whole: bool) -> bool
-    ensures answer { λ r. ⌜ r ≡ anySpared (now (map .entry)) tags whole (contents (now (memory .entry))) ⌝ }
+    ensures answer { λ r. ⌜ r ≡ anySpared (now (map .entry)) tags whole (length (contents (now (memory .entry)))) ⌝ }
     ensures memory { λ _. ⌜ contents (now (memory .exit)) ≡ erased (now (map .entry)) tags whole (contents (now (memory .entry))) ⌝ }
 {
     let blank = [0xFFu8; 512];
