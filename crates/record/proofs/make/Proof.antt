@@ -28,22 +28,24 @@ second true true c e = cc
 second true false c e = e
 second false b c e = let z : _≡_ {A = ℕ} 0 1 = cc in absurd (omega arith)
 
--- an allowed size has at most 4,096 groups
+-- so an allowed size has at most 4,096 groups, a number that fits 16 bits
 few : (bytes : ℕ) → sizeAllowed bytes ≡ true → bytes ≤ 33554432
 few bytes e = leb-true bytes 33554432 (second (leb 8192 bytes) (leb bytes 33554432) _ e)
 
 -- what is known behind each check
-sized : (c : tie.Else1) → sizeAllowed (length (now (c .before .before .before .before .before .args .memory))) ≡ true
+abbrev begun : tie.Else1 → tie.Start
+begun c = c .before .before .before .before .before
+
+sized : (c : tie.Else1) → sizeAllowed (length (now (begun c .args .memory))) ≡ true
 sized c = right (c .before .size-allowed .result) (c .before .size-allowed .ensures) (c .if1 .left)
 
-mapped : (c : tie.Else2)
-    → mapRight (now (c .before .before .before .before .before .before .before .args .map)) (length (now (c .before .before .before .before .before .before .before .args .memory)) / 8192) ≡ true
+mapped : (c : tie.Else2) → mapRight (now (begun (c .before .before) .args .map)) (length (now (begun (c .before .before) .args .memory)) / 8192) ≡ true
 mapped c = right (c .before .map-right .result) (c .before .map-right .ensures) (c .if2 .left)
 
-cid-right : (c : tie.Else3) → registerRight (c .before .before .before .before .before .before .before .before .before .args .cid) ≡ true
+cid-right : (c : tie.Else3) → registerRight (begun (c .before .before .before .before) .args .cid) ≡ true
 cid-right c = right (c .before .register-right .result) (c .before .register-right .ensures) (c .if3 .left)
 
-csd-right : (c : tie.Else4) → registerRight (c .before .before .before .before .before .before .before .before .before .before .before .args .csd) ≡ true
+csd-right : (c : tie.Else4) → registerRight (begun (c .before .before .before .before .before .before) .args .csd) ≡ true
 csd-right c = right (c .before .register-right2 .result) (c .before .register-right2 .ensures) (c .if4 .left)
 
 returns : tie.Need-returns
@@ -95,7 +97,7 @@ returns-5 c =
 cast-t17 : tie.Need-cast-t17
 cast-t17 c =
     let e = c .before .before .before .before .before .before .before in
-    omega (arith, few (length (now (e .before .before .before .before .before .args .memory))) (sized e))
+    omega (arith, few (length (now (begun e .args .memory))) (sized e))
 
 returns-6 : tie.Need-returns-6
 unfolding madeOf
