@@ -196,6 +196,7 @@ fn conclude(
 {
     let index = asked.index;
     let argument = asked.argument;
+    let locked = met.locked;
     let state = link.state;
     let on = states::column_of(state);
     let response = response_of(row);
@@ -205,27 +206,13 @@ fn conclude(
     match fault {
         Fault::None => {
             let next = obey::obey(link, index, argument, column, tags);
-            answer(
-                next,
-                errors,
-                response,
-                index,
-                met.locked,
-                on,
-                obey::change_of(index, argument),
-            )
+            let change = obey::change_of(index, argument);
+            answer(next, errors, response, index, locked, on, change)
         }
         Fault::Bit(bit) => {
+            let told = status::set(errors, bit);
             let next = Link { tags, ..link };
-            answer(
-                next,
-                status::set(errors, bit),
-                response,
-                index,
-                met.locked,
-                on,
-                Change::Nothing,
-            )
+            answer(next, told, response, index, locked, on, Change::Nothing)
         }
     }
 }

@@ -23,8 +23,13 @@ pub fn drops_tags(index: u8) -> bool
     ensures answer { λ r. ⌜ r ≡ dropsTags index ⌝ }
 {
     match index {
-        0 | 13 => false,
-        32 | 33 | 35 | 36 | 38 => false,
+        0 => false,
+        13 => false,
+        32 => false,
+        33 => false,
+        35 => false,
+        36 => false,
+        38 => false,
         _ => true,
     }
 }
@@ -122,9 +127,13 @@ fn argument_fault(index: u8, argument: u32, length: u16, size: u32) -> Fault
     match index {
         3 => address_fault(argument),
         16 => length_fault(argument),
-        17 | 18 => read_fault(argument, length, size),
-        24 | 25 => write_fault(argument, length, size),
-        28..=30 => group_fault(argument, size),
+        17 => read_fault(argument, length, size),
+        18 => read_fault(argument, length, size),
+        24 => write_fault(argument, length, size),
+        25 => write_fault(argument, length, size),
+        28 => group_fault(argument, size),
+        29 => group_fault(argument, size),
+        30 => group_fault(argument, size),
         _ => Fault::None,
     }
 }
@@ -241,8 +250,8 @@ pub fn obey(link: Link, index: u8, argument: u32, column: Column, tags: Tags) ->
         state: state_at(column, awaited_by(index, argument, state)),
         address: address_after(index, argument, link.address),
         length: length_after(index, argument, link.length),
-        errors: link.errors,
         tags,
+        ..link
     }
 }
 

@@ -1,0 +1,186 @@
+-- Wrong answers that the promises rule out, each refuted at a sample that antt computes: a call's answer is the definition, so a call
+-- that gave the wrong answer would make the two equal. (Others are tried as must-fail edits.)
+-- Of a command at a card:
+--   state-after-in-r1        CMD17's R1 shows data, the state after the command
+--   bits-kept-after-r1       CMD13's R1 leaves what it reported pending
+--   r2-clears-every-bit      CMD9 clears bit 31
+--   r2-clears-none           CMD9 leaves bits 23 and 22 pending
+--   illegal-in-stby          CMD17 in stby sets bit 22
+--   locked-card-reads        CMD17 takes a locked card to data
+--   lock-request-locked-out  CMD42 leaves a locked card in tran
+--   long-block-taken         CMD16 of 2,049 is taken
+--   status-drops-tags        CMD13 drops tags
+--   reset-told-by-cmd0       CMD0 leaves bit 13 for the tags that it drops
+-- Of a frame with a wrong CRC7:
+--   damage-told-inactive     bit 23 is set in Inactive
+--   damage-drops-tags        it drops tags
+--   damage-clears-bits       it clears what is pending
+-- Of checks 5 and 6:
+--   locked-read-judged       CMD17 at a locked card has no error
+--   misaligned-out-of-range  CMD24 of a misaligned address in range is bit 31
+--   end-misaligned           CMD24 of a misaligned address in the last 511 bytes is bit 30
+--   lock-keeps-tags          CMD33 at a locked card keeps tags
+-- Of a command obeyed:
+--   address-from-low-half    CMD3 takes its address from argument bits 15..0
+--   many-read-as-one         CMD18 begins a read of one block
+--   status-ends-work         CMD13 ends the read of many blocks
+-- Of what a command changes in what is lent:
+--   clear-sets               CMD29 sets the group
+--   group-by-byte            CMD28 takes the address for the group's number
+--   read-erases              CMD17 erases
+-- Of check 5 alone:
+--   lock-stops-request       CMD42 is stopped by the lock
+--   lock-passes-read         CMD17 passes it
+--   unlocked-stops           an unlocked card stops CMD17
+-- Of the tags:
+--   status-drops             CMD13 drops tags
+--   read-keeps               CMD17 keeps tags
+-- Assumes nothing.
+use mathlib.Core.Bool.{Bool, true, false}
+use mathlib.Core.Path.{_≡_}
+use Prim.Native.Nat.{ℕ}
+use native.Mathlib.Omega.{arith}
+use Rattle.moves.specs.Classes.{classOf}
+use Rattle.moves.specs.Moves.{moveOf}
+use Rattle.moves.specs.Rows.{rowOf, transferRow}
+use Rattle.record.specs.Power.{freshLink}
+use Rattle.record.specs.declared.Link.{Link}
+use Rattle.states.specs.declared.Column.the-variants.{Stby as ToStby, Data as ToData}
+use Rattle.states.specs.declared.Outgoing.the-variants.{One, Many}
+use Rattle.states.specs.declared.State.{State}
+use Rattle.states.specs.declared.State.the-variants.{Ident, Stby, Tran, Data, Ina}
+use Rattle.status.specs.ErrorBits.{errorBit}
+use Rattle.status.specs.Status.{wordOf}
+use Rattle.status.specs.declared.Fault.the-variants.{None, Bit}
+use Rattle.tags.specs.Tagging.{noTags, tagsOf, endTagged}
+use Rattle.tags.specs.declared.Kind.the-variants.{Sectors}
+use Rattle.tags.specs.declared.Range.the-variants.{Nothing, Start}
+use Rattle.tags.specs.declared.Tags.{Tags}
+use Rattle.command.specs.Answers.{responseOf, answered}
+use Rattle.command.specs.Arguments.{argumentFault}
+use Rattle.command.specs.Command.{damagedLink, resetTold, concluded, takenOf, commandOf}
+use Rattle.command.specs.Obey.{dropsTags, passesLock, taggingOf, judgedOf, awaitedBy, obeyed, changeOf}
+use Rattle.command.specs.declared.Change.the-variants.{Protect, Erase}
+use Rattle.command.specs.declared.Met.{Met}
+use Rattle.command.specs.declared.Sent.the-variants.{Status}
+
+-- a card of address 1 and block length 512, with a state, pending bits and tags
+abbrev card : State → ℕ → Tags → Link
+card state bits tags = record { state = state; address = 1; length = 512; errors = record { bits = bits }; tags = tags }
+
+-- one of 8,192 bytes
+abbrev met : Bool → Met
+met locked = record { ocr = 0x00FF8000; groups = 1; locked = locked; wins = true }
+
+-- a start at sector 1
+abbrev started : Tags
+started = tagsOf (Start Sectors 1)
+
+state-after-in-r1 : commandOf (card Tran 0 noTags) (met false) 17 0 .sent ≡ Status 17 0x00000B00 → ⊥
+unfolding commandOf rowOf transferRow moveOf takenOf judgedOf taggingOf argumentFault concluded resetTold responseOf answered obeyed awaitedBy changeOf wordOf
+state-after-in-r1 e = let z : _≡_ {A = ℕ} 0x900 0xB00 = cc in omega arith
+
+bits-kept-after-r1 : commandOf (card Stby 0x80400000 noTags) (met false) 13 0x00010000 .link .errors .bits ≡ 0x80400000 → ⊥
+unfolding commandOf rowOf moveOf takenOf judgedOf taggingOf argumentFault concluded resetTold responseOf answered obeyed awaitedBy changeOf wordOf
+bits-kept-after-r1 e = omega arith
+
+r2-clears-every-bit : commandOf (card Stby 0x80C00000 noTags) (met false) 9 0x00010000 .link .errors .bits ≡ 0 → ⊥
+unfolding commandOf rowOf moveOf takenOf judgedOf taggingOf argumentFault concluded resetTold responseOf answered obeyed awaitedBy changeOf wordOf
+r2-clears-every-bit e = omega arith
+
+r2-clears-none : commandOf (card Stby 0x80C00000 noTags) (met false) 9 0x00010000 .link .errors .bits ≡ 0x80C00000 → ⊥
+unfolding commandOf rowOf moveOf takenOf judgedOf taggingOf argumentFault concluded resetTold responseOf answered obeyed awaitedBy changeOf wordOf
+r2-clears-none e = omega arith
+
+illegal-in-stby : commandOf (card Stby 0 noTags) (met false) 17 0 .link .errors .bits ≡ 0x00400000 → ⊥
+unfolding commandOf rowOf transferRow moveOf
+illegal-in-stby e = omega arith
+
+locked-card-reads : commandOf (card Tran 0 noTags) (met true) 17 0 .link .state ≡ Data (One 0) → ⊥
+unfolding commandOf rowOf transferRow moveOf classOf takenOf judgedOf concluded resetTold responseOf answered wordOf
+locked-card-reads e = let z : _≡_ {A = ℕ} 0 1 = cc in omega arith
+
+lock-request-locked-out : commandOf (card Tran 0 noTags) (met true) 42 0 .link .state ≡ Tran → ⊥
+unfolding commandOf rowOf transferRow moveOf classOf takenOf judgedOf taggingOf argumentFault concluded resetTold responseOf answered obeyed awaitedBy changeOf wordOf
+lock-request-locked-out e = let z : _≡_ {A = ℕ} 0 1 = cc in omega arith
+
+long-block-taken : commandOf (card Tran 0 noTags) (met false) 16 2049 .link .length ≡ 2049 → ⊥
+unfolding commandOf rowOf transferRow moveOf takenOf judgedOf taggingOf argumentFault concluded resetTold responseOf answered wordOf
+long-block-taken e = omega arith
+
+status-drops-tags : commandOf (card Tran 0 started) (met false) 13 0x00010000 .link .tags .range ≡ Nothing → ⊥
+unfolding commandOf rowOf moveOf takenOf judgedOf taggingOf argumentFault concluded resetTold responseOf answered obeyed awaitedBy changeOf wordOf
+status-drops-tags e = let z : _≡_ {A = ℕ} 0 1 = cc in omega arith
+
+reset-told-by-cmd0 : commandOf (card Tran 0 started) (met false) 0 0 .link .errors .bits ≡ 0x00002000 → ⊥
+unfolding commandOf rowOf moveOf takenOf freshLink
+reset-told-by-cmd0 e = omega arith
+
+damage-told-inactive : damagedLink (card Ina 0 noTags) .errors .bits ≡ 0x00800000 → ⊥
+unfolding damagedLink
+damage-told-inactive e = omega arith
+
+damage-drops-tags : damagedLink (card Tran 0 started) .tags .range ≡ Nothing → ⊥
+unfolding damagedLink
+damage-drops-tags e = let z : _≡_ {A = ℕ} 0 1 = cc in omega arith
+
+damage-clears-bits : damagedLink (card Tran 0x00400000 noTags) .errors .bits ≡ 0x00800000 → ⊥
+unfolding damagedLink
+damage-clears-bits e = omega arith
+
+locked-read-judged : judgedOf (card Tran 0 noTags) 1 true 17 0 .error ≡ None → ⊥
+unfolding judgedOf classOf
+locked-read-judged e = let z : _≡_ {A = ℕ} 0 1 = cc in omega arith
+
+misaligned-out-of-range : judgedOf (card Tran 0 noTags) 1 false 24 1 .error ≡ Bit (errorBit 31) → ⊥
+unfolding judgedOf taggingOf argumentFault
+misaligned-out-of-range e = let z : _≡_ {A = ℕ} 0 1 = cc in omega arith
+
+end-misaligned : judgedOf (card Tran 0 noTags) 1 false 24 7681 .error ≡ Bit (errorBit 30) → ⊥
+unfolding judgedOf taggingOf argumentFault
+end-misaligned e = let z : _≡_ {A = ℕ} 0 1 = cc in omega arith
+
+lock-keeps-tags : judgedOf (card Tran 0 started) 1 true 33 512 .tags .range ≡ Start Sectors 1 → ⊥
+unfolding judgedOf classOf taggingOf endTagged
+lock-keeps-tags e = let z : _≡_ {A = ℕ} 0 1 = cc in omega arith
+
+address-from-low-half : obeyed (card Ident 0 noTags) 3 0x00020003 ToStby noTags .address ≡ 3 → ⊥
+unfolding obeyed
+address-from-low-half e = omega arith
+
+many-read-as-one : obeyed (card Tran 0 noTags) 18 512 ToData noTags .state ≡ Data (One 512) → ⊥
+unfolding obeyed awaitedBy
+many-read-as-one e = let z : _≡_ {A = ℕ} 0 1 = cc in omega arith
+
+status-ends-work : obeyed (card (Data (Many 512)) 0 noTags) 13 0x00010000 ToData noTags .state ≡ Tran → ⊥
+unfolding obeyed awaitedBy
+status-ends-work e = let z : _≡_ {A = ℕ} 0 1 = cc in omega arith
+
+clear-sets : changeOf 29 8192 ≡ Protect 1 true → ⊥
+unfolding changeOf
+clear-sets e = let z : _≡_ {A = ℕ} 0 1 = cc in omega arith
+
+group-by-byte : changeOf 28 8192 ≡ Protect 8192 true → ⊥
+unfolding changeOf
+group-by-byte e = let z : _≡_ {A = ℕ} 1 8192 = cc in omega arith
+
+read-erases : changeOf 17 8192 ≡ Erase → ⊥
+unfolding changeOf
+read-erases e = let z : _≡_ {A = ℕ} 0 1 = cc in omega arith
+
+lock-stops-request : passesLock true 42 ≡ false → ⊥
+unfolding classOf
+lock-stops-request e = let z : _≡_ {A = ℕ} 0 1 = cc in omega arith
+
+lock-passes-read : passesLock true 17 ≡ true → ⊥
+unfolding classOf
+lock-passes-read e = let z : _≡_ {A = ℕ} 0 1 = cc in omega arith
+
+unlocked-stops : passesLock false 17 ≡ false → ⊥
+unlocked-stops e = let z : _≡_ {A = ℕ} 0 1 = cc in omega arith
+
+status-drops : dropsTags 13 ≡ true → ⊥
+status-drops e = let z : _≡_ {A = ℕ} 0 1 = cc in omega arith
+
+read-keeps : dropsTags 17 ≡ false → ⊥
+read-keeps e = let z : _≡_ {A = ℕ} 0 1 = cc in omega arith
