@@ -42,7 +42,7 @@ pub extern "C" fn measured_write(memory: &mut [u8], sector: u32, bytes: &[u8; 51
 #[no_mangle]
 pub extern "C" fn measured_erase(memory: &mut [u8], map: &[u8], first: u32, last: u32) -> bool
     ensures answer { λ r. ⌜ r ≡ anySpared (now (map .entry)) (sectorsTagged first last) false (length (contents (now (memory .entry)))) ⌝ }
-    ensures memory { λ _. ⌜ contents (now (memory .exit)) ≡ erased (now (map .entry)) (sectorsTagged first last) false (length (contents (now (memory .entry)))) ⌝ }
+    ensures memory { λ _. ⌜ contents (now (memory .exit)) ≡ erased (now (map .entry)) (sectorsTagged first last) false (contents (now (memory .entry))) ⌝ }
 {
     let tags = Tags {
         range: Range::Full(Kind::Sectors, first, last),
