@@ -1,18 +1,36 @@
 -- Document 01, "Proved together, and run": the marked examples, one list. Each says what a program makes of some bytes, so that the
--- statement over the list is one about any reader of frames and any sum of payloads.
+-- statement over the list is one about any reader of frames, any card's answers and any sum of payloads.
 -- Assumes nothing.
 use mathlib.Core.Path.{_≡_}
-use mathlib.Core.List.{List, [], _∷_}
+use mathlib.Core.List.{List, [], _∷_, _++_}
 use Prim.Native.Nat.{ℕ}
+use lib.ListN.{replicate}
 use Rattle.base.specs.Refusals.{by}
+use Rattle.lock.specs.Passwords.{noPassword}
+use Rattle.record.specs.Power.{freshLink}
+use Rattle.record.specs.Record.{withState}
+use Rattle.record.specs.declared.Card.{Card}
+use Rattle.states.specs.declared.State.{State}
+use Rattle.states.specs.declared.State.the-variants.{Stby, Tran}
 use Rattle.wire.specs.declared.Frame.{Frame}
 use Rattle.wire.specs.declared.Frame.the-variants.{Command, Refused}
 
 pub data Example : Type 0 where
   -- the frame is read so
   frame : List ℕ → Frame → Example
+  -- a made card in this state answers the frame so
+  answer : State → List ℕ → List ℕ → Example
   -- the payload has this CRC16
   payload : List ℕ → ℕ → Example
+
+-- the card that "busline" adds: CID and CSD "15 zero bytes and 01", OCR 00FF8000, 8,192 bytes, no password; after power-on, but in this state
+unfoldable pub cardIn : State → Card
+cardIn state =
+    record {
+      registers = record { cid = replicate 15 0 ++ (1 ∷ []); csd = replicate 15 0 ++ (1 ∷ []); ocr = 0x00FF8000; groups = 1 };
+      lock = noPassword;
+      link = withState freshLink state;
+    }
 
 abbrev pub marked : List Example
 marked =
@@ -22,6 +40,10 @@ marked =
     frame (0x4D ∷ 0x00 ∷ 0x01 ∷ 0x00 ∷ 0x00 ∷ 0x53 ∷ []) (Command 13 0x00010000) ∷
     -- "500000020015 is CMD16 of 512"
     frame (0x50 ∷ 0x00 ∷ 0x00 ∷ 0x02 ∷ 0x00 ∷ 0x15 ∷ []) (Command 16 512) ∷
+    -- "10000009000B answers it"
+    answer Tran (0x50 ∷ 0x00 ∷ 0x00 ∷ 0x02 ∷ 0x00 ∷ 0x15 ∷ []) (0x10 ∷ 0x00 ∷ 0x00 ∷ 0x09 ∷ 0x00 ∷ 0x0B ∷ []) ∷
+    -- "0D00000700FB answers CMD13 in Stand-by"
+    answer Stby (0x4D ∷ 0x00 ∷ 0x01 ∷ 0x00 ∷ 0x00 ∷ 0x53 ∷ []) (0x0D ∷ 0x00 ∷ 0x00 ∷ 0x07 ∷ 0x00 ∷ 0xFB ∷ []) ∷
     -- "400000000097 is refused 3"
     frame (0x40 ∷ 0x00 ∷ 0x00 ∷ 0x00 ∷ 0x00 ∷ 0x97 ∷ []) (Refused (by 3)) ∷
     -- "payload 80 has CRC16 9188"
@@ -29,9 +51,10 @@ marked =
     -- "00 has 0000"
     payload (0x00 ∷ []) 0x0000 ∷ []
 
-module _ (read : List ℕ → Frame) (sum : List ℕ → ℕ) where
+module _ (read : List ℕ → Frame) (reply : Card → List ℕ → List ℕ) (sum : List ℕ → ℕ) where
   abbrev pub holds : Example → Type 0
-  holds (frame bytes answer) = read bytes ≡ answer
+  holds (frame bytes is) = read bytes ≡ is
+  holds (answer state bytes line) = reply (cardIn state) bytes ≡ line
   holds (payload bytes n) = sum bytes ≡ n
 
   abbrev pub all : List Example → Type 0

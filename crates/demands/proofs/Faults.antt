@@ -1,0 +1,170 @@
+-- Which commands checks 5 and 6 can find an error in.
+--   faultless      the commands that never have one
+--   no-fault       they have none, locked or not
+--   judged-drops   a command with an error drops the tags
+--   row-judging    every other command falls in one of a few rows of the table
+--   answers-r1     those are answered by R1 wherever the table has a move for them: one test of the whole table
+-- Assumes nothing.
+use mathlib.Core.Path.{_≡_, refl, subst}
+use mathlib.Core.Bool.{Bool, true, false, not, _||_}
+use mathlib.Core.List.{List, [], _∷_}
+use Prim.Native.Nat.{ℕ}
+use native.Mathlib.Omega.{arith}
+use lib.Dec.{T}
+use Rattle.base.specs.Choice.{pick}
+use Rattle.command.specs.Answers.{responseOf}
+use Rattle.command.specs.Arguments.{argumentFault}
+use Rattle.command.specs.Obey.{passesLock, erasing, taggingOf, judgedOf}
+use Rattle.command.specs.declared.Change.the-variants.{Nothing}
+use Rattle.command.specs.declared.Response.{Response}
+use Rattle.command.specs.declared.Response.the-variants as response
+use Rattle.moves.proofs.Orders.{everywhere}
+use Rattle.moves.specs.Classes.{classOf}
+use Rattle.moves.specs.Indices.{among}
+use Rattle.moves.specs.Moves.{moveOf}
+use Rattle.moves.specs.Rows.{own, transferRow, rowOf}
+use Rattle.moves.specs.Rules.{inRow}
+use Rattle.moves.specs.declared.Asked.{Asked}
+use Rattle.moves.specs.declared.Move.{Move}
+use Rattle.moves.specs.declared.Move.the-variants.{Ignored, Silent, Illegal, To}
+use Rattle.moves.specs.declared.Row.{Row}
+use Rattle.moves.specs.declared.Row.the-variants.{SetRelativeAddr, StopTransmission, SendStatus, SetOrTag, Read, Write, Program, OtherAddress, Unsupported}
+use Rattle.record.specs.Record.{sizeOf}
+use Rattle.record.specs.declared.Link.{Link}
+use Rattle.states.specs.declared.Column.{Column}
+use Rattle.status.specs.declared.Fault.the-variants.{None}
+use Rattle.tags.proofs.TagTheorems.{Drops, start-error-drops, end-error-drops}
+use Rattle.tags.specs.Tags.{eraseOf}
+use Rattle.tags.specs.declared.Kind.the-variants.{Sectors, Groups}
+use Rattle.tags.specs.declared.ToErase.{ToErase}
+use Rattle.tags.specs.declared.ToErase.the-variants.{Sectors as FromTo, Error}
+use Rattle.demands.proofs.Branches.{picked, guarded, each, Each}
+
+-- the commands that have no error to show: class 0 but for CMD3, 12 and 13
+abbrev pub faultless : List ℕ
+faultless = 0 ∷ 1 ∷ 2 ∷ 4 ∷ 7 ∷ 9 ∷ 10 ∷ 15 ∷ []
+
+class-0 : (locked : Bool) → not locked || true ≡ true
+class-0 true = refl
+class-0 false = refl
+
+module _ (link : Link) (groups : ℕ) (locked : Bool) (argument : ℕ) where
+  Without : ℕ → Type 0
+  Without index = judgedOf link groups locked index argument .error ≡ None
+
+  without : (index : ℕ) → passesLock locked index ≡ true → taggingOf link (sizeOf groups) index argument .error ≡ None → Without index
+  unfolding judgedOf Without
+  without index passes none = rw passes none
+
+  pub no-fault : (index : ℕ) → among index faultless ≡ true → judgedOf link groups locked index argument .error ≡ None
+  unfolding Without taggingOf argumentFault classOf
+  no-fault =
+      each Without faultless (
+        without 0 (class-0 locked) refl,
+        (
+          without 1 (class-0 locked) refl,
+          (
+            without 2 (class-0 locked) refl,
+            (
+              without 4 (class-0 locked) refl,
+              (
+                without 7 (class-0 locked) refl,
+                (
+                  without 9 (class-0 locked) refl,
+                  (
+                    without 10 (class-0 locked) refl,
+                    (without 15 (class-0 locked) refl, tt),
+                  ),
+                ),
+              ),
+            ),
+          ),
+        ),
+      )
+
+-- CMD38's error drops tags, and so does its erase
+erase-drops : (e : ToErase) → Drops (erasing e)
+erase-drops (FromTo first last) bit h = refl
+erase-drops (Error b) bit h = refl
+
+-- what checks 5 and 6 stop drops the tags
+pub judged-drops : (link : Link) (groups : ℕ) (locked : Bool) (index argument : ℕ) → Drops (judgedOf link groups locked index argument)
+unfolding judgedOf taggingOf
+judged-drops link groups locked index argument =
+    guarded Drops (passesLock locked index) (λ t bit e. refl)
+    (λ t. picked Drops (among index (13 ∷ [])) (λ u bit e. let z : _≡_ {A = ℕ} 0 1 = cc in absurd (omega arith))
+    (λ u. picked Drops (among index (32 ∷ [])) (λ v. start-error-drops Sectors argument (sizeOf groups))
+    (λ v. picked Drops (among index (33 ∷ [])) (λ w. end-error-drops (link .tags) Sectors argument (sizeOf groups))
+    (λ w. picked Drops (among index (35 ∷ [])) (λ x. start-error-drops Groups argument (sizeOf groups))
+    (λ x. picked Drops (among index (36 ∷ [])) (λ y. end-error-drops (link .tags) Groups argument (sizeOf groups))
+    (λ y. picked Drops (among index (38 ∷ [])) (λ z. erase-drops (eraseOf (link .tags))) (λ z bit e. refl)))))))
+
+-- the rows of the other commands
+abbrev pub judging : List Row
+judging = SetRelativeAddr ∷ StopTransmission ∷ SendStatus ∷ OtherAddress ∷ SetOrTag ∷ Read ∷ Write ∷ Program ∷ Unsupported ∷ []
+
+abbrev pub Judging : Row → Type 0
+Judging row = inRow row judging ≡ true
+
+module _ (asked : Asked) (others : among (asked .index) faultless ≡ false) where
+  Listed : ℕ → Type 0
+  Listed k = among k faultless ≡ true
+
+  never : (ks : List ℕ) → Each Listed ks → among (asked .index) ks ≡ true → ⊥
+  unfolding Listed
+  never ks listed h =
+      let yes : among (asked .index) faultless ≡ true = each Listed ks listed (asked .index) h in
+      let z : _≡_ {A = ℕ} 0 1 = cc in omega arith
+
+  transfer-judging : Judging (transferRow (asked .index))
+  unfolding transferRow
+  transfer-judging =
+      picked Judging (among (asked .index) (16 ∷ 32 ∷ 33 ∷ 35 ∷ 36 ∷ [])) (λ t. refl)
+      (λ t. picked Judging (among (asked .index) (17 ∷ 18 ∷ 30 ∷ [])) (λ u. refl)
+      (λ u. picked Judging (among (asked .index) (24 ∷ 25 ∷ 42 ∷ [])) (λ v. refl)
+      (λ v. picked Judging (among (asked .index) (28 ∷ 29 ∷ 38 ∷ [])) (λ w. refl) (λ w. refl))))
+
+  pub row-judging : Judging (rowOf asked)
+  unfolding rowOf Listed
+  row-judging =
+      picked Judging (among (asked .index) (0 ∷ [])) (λ t. absurd (never (0 ∷ []) (refl, tt) t))
+      (λ t0. picked Judging (among (asked .index) (1 ∷ [])) (λ t. absurd (never (1 ∷ []) (refl, tt) t))
+      (λ t1. picked Judging (among (asked .index) (2 ∷ [])) (λ t. absurd (never (2 ∷ []) (refl, tt) t))
+      (λ t2. picked Judging (among (asked .index) (3 ∷ [])) (λ t. refl)
+      (λ t3. picked Judging (among (asked .index) (4 ∷ [])) (λ t. absurd (never (4 ∷ []) (refl, tt) t))
+      (λ t4. picked Judging (among (asked .index) (7 ∷ [])) (λ t. absurd (never (7 ∷ []) (refl, tt) t))
+      (λ t7. picked Judging (among (asked .index) (9 ∷ 10 ∷ [])) (λ t. absurd (never (9 ∷ 10 ∷ []) (refl, (refl, tt)) t))
+      (λ t9. picked Judging (among (asked .index) (12 ∷ [])) (λ t. refl)
+      (λ t12. picked Judging (among (asked .index) (13 ∷ [])) (λ t. picked Judging (own asked) (λ o. refl) (λ o. refl))
+      (λ t13. picked Judging (among (asked .index) (15 ∷ [])) (λ t. absurd (never (15 ∷ []) (refl, tt) t)) (λ t15. transfer-judging))))))))))
+
+-- such a row is answered by R1 wherever the table has a move for it: one test of the whole table
+abbrev isR1 : Response → Bool
+isR1 response.Nothing = false
+isR1 response.R1 = true
+isR1 response.R2 = false
+isR1 response.R3 = false
+
+is-r1 : (r : Response) → T (isR1 r) → r ≡ response.R1
+is-r1 response.Nothing t = absurd t
+is-r1 response.R1 t = refl
+is-r1 response.R2 t = absurd t
+is-r1 response.R3 t = absurd t
+
+abbrev ifMoved : Move → Bool → Bool
+ifMoved Ignored t = true
+ifMoved Silent t = true
+ifMoved Illegal t = true
+ifMoved (To column) t = t
+
+abbrev answers : Row → Column → Bool
+answers row column = pick (inRow row judging) (ifMoved (moveOf row column) (isR1 (responseOf row))) true
+
+answers-everywhere : (row : Row) (column : Column) → T (answers row column)
+unfolding moveOf responseOf
+answers-everywhere = everywhere answers tt
+
+pub answers-r1 : (row : Row) (column there : Column) → Judging row → moveOf row column ≡ To there → responseOf row ≡ response.R1
+answers-r1 row column there listed e =
+    let t : T (ifMoved (moveOf row column) (isR1 (responseOf row))) = rw listed at (answers-everywhere row column) in
+    is-r1 (responseOf row) (subst (λ (m : Move). T (ifMoved m (isR1 (responseOf row)))) e t)

@@ -1,0 +1,66 @@
+-- Demand 1, whole frames: what a frame leaves of what is lent, where its command changes nothing of it.
+--   unlent            a frame whose command changes nothing lent leaves the record and the answer of its command, and every lent byte
+--   silenced-frame    a silenced frame sends nothing, leaves the card with its link as the command leaves it, and every lent byte
+--   unchanged-frame   a frame that is silent and unchanged leaves the card equal in every field
+-- Assumes nothing.
+use mathlib.Core.Path.{_≡_, refl, ap, _∙_}
+use mathlib.Core.Bool.{Bool, true, false}
+use mathlib.Core.List.{List}
+use Prim.Native.Nat.{ℕ}
+use native.Mathlib.Omega.{arith}
+use lib.ListN.{length}
+use Rattle.base.specs.Choice.{unless}
+use Rattle.base.specs.Refusals.{by}
+use Rattle.card.specs.Frame.{metAlone, frameRefused, commanded, framed, frameJudged, frameOf, spares, sparedTold, erasedBy, protectedBy}
+use Rattle.card.specs.Replies.{done}
+use Rattle.card.specs.Step.{stepOf}
+use Rattle.card.specs.declared.Call.the-variants.{Frame}
+use Rattle.card.specs.declared.FrameJudged.{FrameJudged}
+use Rattle.command.specs.Answers.{silent}
+use Rattle.command.specs.Command.{commandOf}
+use Rattle.command.specs.declared.Change.{Change}
+use Rattle.command.specs.declared.Change.the-variants.{Nothing}
+use Rattle.command.specs.declared.Commanded.{Commanded}
+use Rattle.record.specs.declared.Card.{Card}
+use Rattle.record.specs.declared.Link.{Link}
+use Rattle.wire.specs.Frames.{framingOf, checked}
+use Rattle.wire.specs.Frames as wire
+use Rattle.wire.specs.declared.Frame.the-variants.{Command}
+use Rattle.wire.specs.declared.Framing.{Framing}
+use Rattle.wire.specs.declared.Framing.the-variants.{Framed, Unframed}
+use Rattle.demands.specs.Silenced.{Reads, Unlent}
+
+-- a command that was read came in a frame with the right CRC7
+framing : (f : Framing) (index argument : ℕ) → checked f ≡ Command index argument → f ≡ Framed index argument true
+framing (Framed i a true) index argument e = cc
+framing (Framed i a false) index argument e = let z : _≡_ {A = ℕ} 0 1 = cc in absurd (omega arith)
+framing (Unframed refusal) index argument e = let z : _≡_ {A = ℕ} 0 1 = cc in absurd (omega arith)
+
+module _ (card : Card) (frame memory map out : List ℕ) (index argument : ℕ) (reads : Reads card frame memory map index argument) where
+  abbrev given : Commanded
+  given = commandOf (card .link) (metAlone card) index argument
+
+  judged : frameJudged card frame (length memory) map ≡ commanded card given
+  unfolding frameJudged wire.frameOf
+  judged =
+      ap (λ (t : Bool). unless t (frameRefused card (by 12)) (framed card (framingOf frame))) (reads .lent)
+      ∙ ap (framed card) (framing (framingOf frame) index argument (reads .command))
+
+  pub unlent : given .change ≡ Nothing → Unlent card frame memory map out given
+  unfolding frameOf
+  unlent same =
+      let kept : frameJudged card frame (length memory) map .change ≡ Nothing = ap (λ (j : FrameJudged). j .change) judged ∙ same in
+      record {
+        step =
+            ap (λ (c : Change). sparedTold (frameJudged card frame (length memory) map .stepped) (spares card (length memory) map c)) kept
+            ∙ ap (λ (j : FrameJudged). j .stepped) judged;
+        memory-kept = ap (erasedBy card memory map) kept;
+        map-kept = ap (protectedBy map) kept;
+        output-kept = refl;
+      }
+
+  pub silenced-frame : (link : Link) → given ≡ silent link → Unlent card frame memory map out (silent link)
+  silenced-frame link e = rw e at (unlent (ap (λ (c : Commanded). c .change) e))
+
+  pub unchanged-frame : given ≡ silent (card .link) → stepOf card Frame frame (length memory) map (length out) ≡ done card
+  unchanged-frame e = silenced-frame (card .link) e .step

@@ -1,0 +1,59 @@
+-- A card in Inactive leaves it by power-on alone.
+--   inactive-ends    under every other call it is equal in every field afterwards
+-- Assumes nothing.
+use mathlib.Core.Path.{_≡_, refl, sym, ap, _∙_, subst}
+use mathlib.Core.List.{List}
+use Prim.Native.Nat.{ℕ}
+use Rattle.card.specs.BlockIn.{stateJudged, blockJudged}
+use Rattle.card.specs.BlockOut.{stateSends, outJudged}
+use Rattle.card.specs.Frame.{metAlone, framed, frameJudged, frameOf, spares, sparedTold}
+use Rattle.card.specs.Step.{stepOf}
+use Rattle.card.specs.declared.BlockJudged.{BlockJudged}
+use Rattle.card.specs.declared.Call.{Call}
+use Rattle.card.specs.declared.Call.the-variants.{Frame, BlockIn, BlockOut, WorkDone, PowerOn}
+use Rattle.card.specs.declared.FrameJudged.{FrameJudged}
+use Rattle.card.specs.declared.OutJudged.{OutJudged}
+use Rattle.command.specs.Command.{damagedLink}
+use Rattle.command.specs.declared.Change.{Change}
+use Rattle.command.specs.declared.Change.the-variants.{Nothing}
+use Rattle.record.specs.Power.{worked}
+use Rattle.record.specs.declared.Card.{Card}
+use Rattle.states.specs.declared.State.{State}
+use Rattle.states.specs.declared.State.the-variants.{Ina}
+use Rattle.store.specs.Map.{lentRight}
+use Rattle.wire.specs.Frames.{framingOf}
+use Rattle.wire.specs.declared.Framing.{Framing}
+use Rattle.wire.specs.declared.Framing.the-variants.{Framed, Unframed}
+use Rattle.demands.proofs.Branches.{guarded}
+use Rattle.demands.proofs.Silenced.{check-1}
+
+module _ (card : Card) (ina : card .link .state ≡ Ina) where
+  -- a frame judged that leaves the card, and has nothing to change
+  abbrev Stays : FrameJudged → Type 0
+  Stays j = (j .stepped .card ≡ card) × (j .change ≡ Nothing)
+
+  framed-stays : (framing : Framing) → Stays (framed card framing)
+  unfolding damagedLink
+  framed-stays (Unframed refusal) = (refl, refl)
+  framed-stays (Framed index argument right) =
+      guarded Stays right (λ t. (rw ina, refl)) (λ t. rw (check-1 (card .link) (metAlone card) index argument ina) (refl, refl))
+
+  frame-stays : (input : List ℕ) (memory : ℕ) (map : List ℕ) → Stays (frameJudged card input memory map)
+  unfolding frameJudged
+  frame-stays input memory map =
+      guarded Stays (lentRight memory map (card .registers .groups)) (λ t. (refl, refl)) (λ t. framed-stays (framingOf input))
+
+  pub inactive-ends : (call : Call) → (call ≡ PowerOn → ⊥) → (input : List ℕ) (memory : ℕ) (map : List ℕ) (room : ℕ)
+      → stepOf card call input memory map room .card ≡ card
+  unfolding frameOf blockJudged outJudged worked
+  inactive-ends Frame other input memory map room =
+      let (same, kept) = frame-stays input memory map in
+      ap (λ (c : Change). sparedTold (frameJudged card input memory map .stepped) (spares card memory map c) .card) kept ∙ same
+  inactive-ends BlockIn other input memory map room =
+      guarded (λ (j : BlockJudged). j .stepped .card ≡ card) (lentRight memory map (card .registers .groups)) (λ t. refl)
+      (λ t. subst (λ (s : State). stateJudged card s input map .stepped .card ≡ card) (sym ina) refl)
+  inactive-ends BlockOut other input memory map room =
+      guarded (λ (j : OutJudged). j .stepped .card ≡ card) (lentRight memory map (card .registers .groups)) (λ t. refl)
+      (λ t. subst (λ (s : State). stateSends card s room .stepped .card ≡ card) (sym ina) refl)
+  inactive-ends WorkDone other input memory map room = rw ina
+  inactive-ends PowerOn other input memory map room = absurd (other refl)

@@ -1,0 +1,12 @@
+pub mod Blind
+pub mod Branches
+pub mod Examples
+pub mod Faulted
+pub mod Faults
+pub mod Frames
+pub mod Inactive
+pub mod Refused
+pub mod RefusedFrame
+pub mod RefusedIn
+pub mod RefusedOut
+pub mod Silenced

@@ -1,0 +1,3 @@
+pub mod Faulted
+pub mod Refused
+pub mod Silenced

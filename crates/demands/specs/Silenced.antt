@@ -1,0 +1,102 @@
+-- Document 01, "How a card takes a frame", checks 1, 3 and 4: the commands that a card passes over in silence.
+-- Assumes nothing.
+use mathlib.Core.Path.{_≡_}
+use mathlib.Core.Bool.{Bool, true, false}
+use mathlib.Core.List.{List, [], _∷_}
+use Prim.Native.Nat.{ℕ, _/_}
+use lib.Dec.{eqb}
+use lib.ListN.{length}
+use Rattle.base.specs.Choice.{pick}
+use Rattle.card.specs.Replies.{replied}
+use Rattle.card.specs.Step.{stepOf, memoryOf, mapOf, outputOf}
+use Rattle.card.specs.declared.Call.the-variants.{Frame}
+use Rattle.card.specs.declared.Outcome.the-variants.{Done}
+use Rattle.command.specs.Answers.{silent}
+use Rattle.command.specs.Command.{askedOf, commandOf}
+use Rattle.command.specs.declared.Commanded.{Commanded}
+use Rattle.command.specs.declared.Met.{Met}
+use Rattle.moves.specs.Indices.{among}
+use Rattle.moves.specs.Moves.{moveOf}
+use Rattle.moves.specs.Rows.{rowOf}
+use Rattle.moves.specs.Rules.{inState, inRow, legal, unjudged}
+use Rattle.moves.specs.declared.Move.the-variants.{To}
+use Rattle.moves.specs.declared.Row.{Row}
+use Rattle.moves.specs.declared.Row.the-variants.{DeselectCard}
+use Rattle.record.specs.Record.{withErrors, withLink}
+use Rattle.record.specs.declared.Card.{Card}
+use Rattle.record.specs.declared.Link.{Link}
+use Rattle.states.specs.States.{columnOf, numberOf}
+use Rattle.states.specs.declared.Column.{Column}
+use Rattle.states.specs.declared.Column.the-variants.{Idle, Ready, Ident, Tran, Data, Rcv, Prg}
+use Rattle.status.specs.ErrorBits.{errorBit}
+use Rattle.status.specs.Status.{withBit}
+use Rattle.store.specs.Map.{lentRight}
+use Rattle.wire.specs.Frames.{frameOf}
+use Rattle.wire.specs.declared.Frame.the-variants.{Command}
+
+-- the table's column "Move" has nothing for a state
+abbrev pub noneFrom : Column → List (Column × Column) → Bool
+noneFrom column [] = true
+noneFrom column (pair ∷ pairs) = pick (eqb (numberOf column) (numberOf (pair .0))) false (noneFrom column pairs)
+
+-- the card is in one of these states, or in none of them
+abbrev pub In : Link → List Column → Type 0
+In link columns = inState (columnOf (link .state)) columns ≡ true
+
+abbrev pub Outside : Link → List Column → Type 0
+Outside link columns = inState (columnOf (link .state)) columns ≡ false
+
+-- "argument bits 31..16" are not the card's address
+abbrev pub ForAnother : Link → ℕ → Type 0
+ForAnother link argument = argument / 65536 ≡ link .address → ⊥
+
+module _ (link : Link) (met : Met) (index argument : ℕ) where
+  -- the line of the table that the command falls in at this card
+  abbrev pub row : Row
+  row = rowOf (askedOf link met index argument)
+
+  -- "A command is taken if it passes checks 1 to 4": the table has a move for it
+  abbrev pub Taken : Column → Type 0
+  Taken column = moveOf row (columnOf (link .state)) ≡ To column
+
+  -- "silent, unchanged": nothing sent, every field of the record as it was, and nothing that is lent changed
+  abbrev pub Unchanged : Type 0
+  Unchanged = commandOf link met index argument ≡ silent link
+
+  -- "silent with bit 22": that bit alone
+  abbrev pub Marked : Type 0
+  Marked = commandOf link met index argument ≡ silent (withErrors link (withBit (link .errors) (errorBit 22)))
+
+  -- all that can become of a command
+  pub data Judged : Type 0 where
+    taken : (column : Column) → Taken column → Judged
+    unchanged : Unchanged → Judged
+    marked : In link (Tran ∷ Data ∷ Rcv ∷ Prg ∷ []) → Marked → Judged
+
+  -- check 3: "CMD9, 10, 13, 15 for another address (argument bits 31..16) .. CMD4 always; CMD1, 2, 3 outside their state"; "a losing CMD2
+  -- is not taken"
+  pub data PassedOver : Type 0 where
+    another-address : among index (9 ∷ 10 ∷ 13 ∷ 15 ∷ []) ≡ true → ForAnother link argument → PassedOver
+    set-dsr : index ≡ 4 → PassedOver
+    op-cond : index ≡ 1 → Outside link (Idle ∷ []) → PassedOver
+    all-send-cid : index ≡ 2 → Outside link (Ready ∷ []) → PassedOver
+    lost : index ≡ 2 → met .wins ≡ false → PassedOver
+    relative-address : index ≡ 3 → Outside link (Ident ∷ []) → PassedOver
+
+  -- check 4: "No legal move", of a command that check 3 lets on and that is not CMD7 for another address
+  pub record NoLegalMove : Type 0 where
+    pub judged : inRow row unjudged ≡ false
+    pub selects : inRow row (DeselectCard ∷ []) ≡ false
+    pub stuck : noneFrom (columnOf (link .state)) (legal row) ≡ true
+
+-- a frame that is no refusal: "Frame: 1, 2, 3; at a card 12 comes first"
+pub record Reads (card : Card) (frame memory map : List ℕ) (index argument : ℕ) : Type 0 where
+  pub lent : lentRight (length memory) map (card .registers .groups) ≡ true
+  pub command : frameOf frame ≡ Command index argument
+
+-- a frame whose command leaves this, and that changes no lent byte
+pub record Unlent (card : Card) (frame memory map out : List ℕ) (given : Commanded) : Type 0 where
+  pub step : stepOf card Frame frame (length memory) map (length out) ≡ replied (withLink card (given .link)) Done (given .sent)
+  pub memory-kept : memoryOf card Frame frame memory map ≡ memory
+  pub map-kept : mapOf card Frame frame (length memory) map ≡ map
+  pub output-kept : outputOf card Frame memory map out ≡ out
