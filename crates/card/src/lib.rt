@@ -5,18 +5,20 @@
 //
 // Offers: `Outcome`, `Reply`, `Stepped`; `frame`, `block_in`, `block_out`; `Call`, `step`;
 // `write_sent`.
-mod block_in;
-mod block_out;
-mod frame;
-mod reply;
+mod blocks_in;
+mod blocks_out;
+mod frames;
+mod replies;
 
 use base::Refusal;
-use block_in::block_in;
-use block_out::block_out;
+pub use blocks_in::block_in;
+pub use blocks_out::block_out;
+use command::Change;
 use command::Sent;
-use frame::frame;
+pub use frames::frame;
 use record::Card;
-use reply::done;
+use replies::done;
+pub use replies::write_sent;
 ghost use mathlib.Core.Path.{_≡_};
 ghost use lib.ListN.{length};
 ghost use Rattle.card.specs.Step.{stepOf, memoryOf, mapOf, outputOf};
@@ -39,6 +41,38 @@ pub struct Reply {
 pub struct Stepped {
     pub card: Card,
     pub reply: Reply,
+}
+
+// What a block is to change in what is lent: nothing; a sector, written; everything, erased.
+pub enum Storing {
+    Nothing,
+    Sector(u32),
+    All,
+}
+
+// A block judged: the answer, and what is to be stored.
+pub struct BlockJudged {
+    pub stepped: Stepped,
+    pub storing: Storing,
+}
+
+// What goes out: nothing; bytes of memory from a place on; the protection bits from a group on.
+pub enum Sending {
+    Nothing,
+    Part { at: u32, length: u16 },
+    Protection(u32),
+}
+
+// A block out judged: the answer, and what goes out.
+pub struct OutJudged {
+    pub stepped: Stepped,
+    pub sending: Sending,
+}
+
+// A frame judged: the answer, and what is to change in what is lent.
+pub struct FrameJudged {
+    pub stepped: Stepped,
+    pub change: Change,
 }
 
 // Everything that can happen to a made card.

@@ -1,8 +1,10 @@
 // A block out: 12, 15, 6, 18, 21.
+use crate::OutJudged;
 use crate::Outcome;
 use crate::Reply;
+use crate::Sending;
 use crate::Stepped;
-use crate::reply::refuse;
+use crate::replies::refuse;
 use base::Refusal;
 use command::Sent;
 use record::Card;
@@ -13,19 +15,6 @@ use status::ErrorBit;
 ghost use mathlib.Core.Path.{_≡_};
 ghost use lib.ListN.{length};
 ghost use Rattle.card.specs.BlockOut.{unsent, outRefused, outGood, afterSent, partJudged, protectionJudged, outgoingJudged, stateSends, outJudged, partSent, protectionSent, sentOut};
-
-// What goes out: nothing; bytes of memory from a place on; the protection bits from a group on.
-pub enum Sending {
-    Nothing,
-    Part { at: u32, length: u16 },
-    Protection(u32),
-}
-
-// A block out judged: the answer, and what goes out.
-pub struct OutJudged {
-    pub stepped: Stepped,
-    pub sending: Sending,
-}
 
 fn unsent(card: Card, refusal: Refusal) -> OutJudged
     ensures { λ r. ⌜ r ≡ unsent card refusal ⌝ }
@@ -126,15 +115,10 @@ fn outgoing_judged(card: Card, outgoing: Outgoing, room: usize) -> OutJudged
     }
 }
 
-// A block out judged: memory's contents are no argument, its length is. 12, 15.
-fn judge(card: Card, memory: usize, map: &[u8], room: usize) -> OutJudged
-    ensures { λ r. ⌜ r ≡ outJudged card memory (now (map .entry)) room ⌝ }
+// Whether anything is to go out at all: 15.
+fn state_sends(card: Card, state: State, room: usize) -> OutJudged
+    ensures { λ r. ⌜ r ≡ stateSends card state room ⌝ }
 {
-    if !store::lent_right(memory, map, card.registers.groups as usize) {
-        return unsent(card, Refusal::Lent);
-    }
-    let link = card.link;
-    let state = link.state;
     match state {
         State::Idle => unsent(card, Refusal::NoBlock),
         State::Ready => unsent(card, Refusal::NoBlock),
@@ -147,6 +131,18 @@ fn judge(card: Card, memory: usize, map: &[u8], room: usize) -> OutJudged
         State::Dis => unsent(card, Refusal::NoBlock),
         State::Ina => unsent(card, Refusal::NoBlock),
     }
+}
+
+// A block out judged: memory's contents are no argument, its length is. 12.
+fn judge(card: Card, memory: usize, map: &[u8], room: usize) -> OutJudged
+    ensures { λ r. ⌜ r ≡ outJudged card memory (now (map .entry)) room ⌝ }
+{
+    if !store::lent_right(memory, map, card.registers.groups as usize) {
+        return unsent(card, Refusal::Lent);
+    }
+    let link = card.link;
+    let state = link.state;
+    state_sends(card, state, room)
 }
 
 // A block of memory at the front of the output, where it lies in memory and fits. It is moved in one
@@ -183,6 +179,17 @@ fn send_protection(map: &[u8], group: u32, out: &mut [u8])
     wire::write_block(&four, out);
 }
 
+// What was judged, at the front of the output.
+fn send(sending: Sending, memory: &[u8], map: &[u8], out: &mut [u8])
+    ensures { λ _. ⌜ now (out .exit) ≡ sentOut (now (memory .entry)) (now (map .entry)) (now (out .entry)) sending ⌝ }
+{
+    match sending {
+        Sending::Nothing => {}
+        Sending::Part { at, length } => send_part(memory, at as usize, length as usize, out),
+        Sending::Protection(group) => send_protection(map, group, out),
+    }
+}
+
 // A block out: judged, and then sent.
 pub fn block_out(card: Card, memory: &[u8], map: &[u8], out: &mut [u8]) -> Stepped
     ensures answer { λ r. ⌜ r ≡ outJudged card (length (now (memory .entry))) (now (map .entry)) (length (now (out .entry))) .stepped ⌝ }
@@ -190,10 +197,6 @@ pub fn block_out(card: Card, memory: &[u8], map: &[u8], out: &mut [u8]) -> Stepp
 {
     let judged = judge(card, memory.len(), map, out.len());
     let sending = judged.sending;
-    match sending {
-        Sending::Nothing => {}
-        Sending::Part { at, length } => send_part(memory, at as usize, length as usize, out),
-        Sending::Protection(group) => send_protection(map, group, out),
-    }
+    send(sending, memory, map, out);
     judged.stepped
 }

@@ -1,8 +1,9 @@
 // A frame at a card: 12, 1, 2, 3, and then the command.
+use crate::FrameJudged;
 use crate::Outcome;
 use crate::Reply;
 use crate::Stepped;
-use crate::reply::refuse;
+use crate::replies::refuse;
 use base::Refusal;
 use command::Change;
 use command::Met;
@@ -15,12 +16,6 @@ ghost use lib.ListN.{length};
 ghost use Rattle.card.specs.Frame.{frameRefused, commanded, framed, frameJudged, sparedTold, frameOf, erasedBy, protectedBy, metAlone};
 ghost use Rattle.command.specs.Command.{damagedLink, commandOf};
 ghost use Rattle.record.specs.Record.{withLink};
-
-// A frame judged: the answer, and what is to change in what is lent.
-pub struct FrameJudged {
-    pub stepped: Stepped,
-    pub change: Change,
-}
 
 fn unheard(card: Card, refusal: Refusal) -> FrameJudged
     ensures { λ r. ⌜ r ≡ frameRefused card refusal ⌝ }
@@ -41,15 +36,14 @@ fn heard(card: Card, index: u8, argument: u32) -> FrameJudged
         locked: card.lock.locked,
         wins: true,
     };
-    let given = command::command(card.link, met, index, argument);
+    let link = card.link;
+    let given = command::command(link, met, index, argument);
+    let next = given.link;
     let sent = given.sent;
     let change = given.change;
     FrameJudged {
         stepped: Stepped {
-            card: Card {
-                link: given.link,
-                ..card
-            },
+            card: Card { link: next, ..card },
             reply: Reply {
                 outcome: Outcome::Done,
                 sent,
@@ -62,8 +56,9 @@ fn heard(card: Card, index: u8, argument: u32) -> FrameJudged
 fn damaged(card: Card) -> Card
     ensures { λ r. ⌜ r ≡ withLink card (damagedLink (card .link)) ⌝ }
 {
+    let link = card.link;
     Card {
-        link: command::damaged(card.link),
+        link: command::damaged(link),
         ..card
     }
 }
@@ -72,8 +67,7 @@ fn damaged(card: Card) -> Card
 fn judge(card: Card, frame: &[u8], memory: usize, map: &[u8]) -> FrameJudged
     ensures { λ r. ⌜ r ≡ frameJudged card (now (frame .entry)) memory (now (map .entry)) ⌝ }
 {
-    let right = store::lent_right(memory, map, card.registers.groups as usize);
-    if !right {
+    if !store::lent_right(memory, map, card.registers.groups as usize) {
         return unheard(card, Refusal::Lent);
     }
     let framing = wire::unframe(frame);
@@ -101,6 +95,7 @@ fn tell_spared(stepped: Stepped, spared: bool) -> Stepped
         return stepped;
     }
     let card = stepped.card;
+    let reply = stepped.reply;
     let link = card.link;
     Stepped {
         card: Card {
@@ -110,7 +105,7 @@ fn tell_spared(stepped: Stepped, spared: bool) -> Stepped
             },
             ..card
         },
-        reply: stepped.reply,
+        reply,
     }
 }
 
@@ -130,8 +125,12 @@ pub fn frame(card: Card, frame: &[u8], memory: &mut [u8], map: &mut [u8]) -> Ste
             stepped
         }
         Change::Erase => {
-            let whole = record::csd_protects(card.registers.csd);
-            let spared = store::erase(memory, map, card.link.tags, whole);
+            let registers = card.registers;
+            let csd = registers.csd;
+            let whole = record::csd_protects(csd);
+            let link = card.link;
+            let tags = link.tags;
+            let spared = store::erase(memory, map, tags, whole);
             tell_spared(stepped, spared)
         }
     }

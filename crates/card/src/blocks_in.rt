@@ -1,8 +1,10 @@
 // A block in: 12, 15, 16, 17, 18, 19 or 20. Judging gives the payload of a write as an array beside
 // its answer; storing takes that array.
+use crate::BlockJudged;
 use crate::Stepped;
-use crate::reply::done;
-use crate::reply::refuse;
+use crate::Storing;
+use crate::replies::done;
+use crate::replies::refuse;
 use base::Refusal;
 use lock::Answer;
 use record::Card;
@@ -16,19 +18,6 @@ use wire::Checked;
 ghost use mathlib.Core.Path.{_≡_};
 ghost use lib.ListN.{length};
 ghost use Rattle.card.specs.BlockIn.{awaitedLength, afterRefused, afterStored, withFault, blockRefused, blockGood, writeJudged, requestJudged, carriedOut, awaitedJudged, unread, stateJudged, blockJudged, keptOf, storedBy, clearedBy};
-
-// What a block is to change in what is lent: nothing; a sector, written; everything, erased.
-pub enum Storing {
-    Nothing,
-    Sector(u32),
-    All,
-}
-
-// A block judged: the answer, and what is to be stored.
-pub struct BlockJudged {
-    pub stepped: Stepped,
-    pub storing: Storing,
-}
 
 // The bytes that are awaited.
 fn awaited_length(card: Card, incoming: Incoming) -> usize
@@ -110,7 +99,8 @@ fn block_good(card: Card, state: State, storing: Storing) -> BlockJudged
 fn write_judged(card: Card, incoming: Incoming, sector: u32, map: &[u8]) -> BlockJudged
     ensures { λ r. ⌜ r ≡ writeJudged card incoming sector (now (map .entry)) ⌝ }
 {
-    if record::size(card.registers.groups) / 512 <= sector {
+    let registers = card.registers;
+    if record::size(registers.groups) / 512 <= sector {
         return block_refused(
             card,
             incoming,
@@ -118,7 +108,8 @@ fn write_judged(card: Card, incoming: Incoming, sector: u32, map: &[u8]) -> Bloc
             Fault::Bit(ErrorBit::OutOfRange),
         );
     }
-    let whole = record::csd_protects(card.registers.csd);
+    let csd = registers.csd;
+    let whole = record::csd_protects(csd);
     if store::protected(map, sector, whole) {
         return block_refused(
             card,
@@ -135,10 +126,14 @@ fn write_judged(card: Card, incoming: Incoming, sector: u32, map: &[u8]) -> Bloc
 fn lock_judged(card: Card, payload: &[u8]) -> BlockJudged
     ensures { λ r. ⌜ r ≡ requestJudged card (now (payload .entry)) ⌝ }
 {
-    let whole = record::csd_protects(card.registers.csd);
-    let requested = lock::request(card.lock, payload, whole);
+    let registers = card.registers;
+    let csd = registers.csd;
+    let whole = record::csd_protects(csd);
+    let lock = card.lock;
+    let requested = lock::request(lock, payload, whole);
+    let changed = requested.lock;
     let next = Card {
-        lock: requested.lock,
+        lock: changed,
         ..card
     };
     let answer = requested.answer;
@@ -194,15 +189,10 @@ fn unread(card: Card, refusal: Refusal) -> BlockJudged
     }
 }
 
-// A block in judged: memory's contents are no argument, its length is. 12, 15.
-fn judge(card: Card, block: &[u8], memory: usize, map: &[u8]) -> BlockJudged
-    ensures { λ r. ⌜ r ≡ blockJudged card (now (block .entry)) memory (now (map .entry)) ⌝ }
+// Whether a block is awaited at all: 15.
+fn state_judged(card: Card, state: State, block: &[u8], map: &[u8]) -> BlockJudged
+    ensures { λ r. ⌜ r ≡ stateJudged card state (now (block .entry)) (now (map .entry)) ⌝ }
 {
-    if !store::lent_right(memory, map, card.registers.groups as usize) {
-        return unread(card, Refusal::Lent);
-    }
-    let link = card.link;
-    let state = link.state;
     match state {
         State::Idle => unread(card, Refusal::NoBlock),
         State::Ready => unread(card, Refusal::NoBlock),
@@ -217,6 +207,18 @@ fn judge(card: Card, block: &[u8], memory: usize, map: &[u8]) -> BlockJudged
     }
 }
 
+// A block in judged: memory's contents are no argument, its length is. 12.
+fn judge(card: Card, block: &[u8], memory: usize, map: &[u8]) -> BlockJudged
+    ensures { λ r. ⌜ r ≡ blockJudged card (now (block .entry)) memory (now (map .entry)) ⌝ }
+{
+    if !store::lent_right(memory, map, card.registers.groups as usize) {
+        return unread(card, Refusal::Lent);
+    }
+    let link = card.link;
+    let state = link.state;
+    state_judged(card, state, block, map)
+}
+
 // The first 512 bytes of a block: what a write keeps until it is stored.
 fn kept(block: &[u8]) -> [u8; 512]
     ensures { λ r. ⌜ r ≡ keptOf (now (block .entry)) ⌝ }
@@ -224,9 +226,10 @@ fn kept(block: &[u8]) -> [u8; 512]
     let mut bytes = [0; 512];
     let mut i: usize = 0;
     while i < 512 {
-        if i < block.len() {
-            bytes[i] = block[i];
+        if block.len() <= i {
+            return bytes;
         }
+        bytes[i] = block[i];
         i += 1;
     }
     bytes

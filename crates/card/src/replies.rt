@@ -49,18 +49,14 @@ pub fn write_sent(registers: Registers, sent: Sent, out: &mut [u8]) -> Written
     match sent {
         Sent::Nothing => Written::Bytes(0),
         Sent::Status { index, status } => wire::write_r1(R1 { index, status }, out),
-        Sent::Cid => wire::write_r2(
-            R2 {
-                register: registers.cid,
-            },
-            out,
-        ),
-        Sent::Csd => wire::write_r2(
-            R2 {
-                register: registers.csd,
-            },
-            out,
-        ),
+        Sent::Cid => {
+            let cid = registers.cid;
+            wire::write_r2(R2 { register: cid }, out)
+        }
+        Sent::Csd => {
+            let csd = registers.csd;
+            wire::write_r2(R2 { register: csd }, out)
+        }
         Sent::Ocr => wire::write_r3(R3 { ocr: registers.ocr }, out),
     }
 }
