@@ -3,8 +3,7 @@
 // does to a card stands in obey.rt; which commands are taken, what they answer and which error
 // bits they clear, as MMC mode has it, stands here. No call has a `requires`.
 //
-// Offers: `Met`, `Sent`, `Change`, `Commanded`, `command`; `damaged`;
-// `passes_lock`, `judge`, `obey`, `change_of`.
+// Offers: `Met`, `Sent`, `Change`, `Commanded`, `command`; `damaged`.
 mod obey;
 
 use moves::Asked;
