@@ -41,10 +41,13 @@ returns c =
     let j = k .before in
     let a = j .before .before .before .before .before .args in
     let m = now (a .memory) in
-    let p = now (a .map) in
-    (ap (λ (x : BlockJudged). x .stepped) (j .judge .ensures),
-    (s .store .ensures .0 ∙ ap₂ (λ (b : List ℕ) (x : BlockJudged). storedBy b m (x .storing)) (k .kept .ensures) (j .judge .ensures),
-    s .store .ensures .1 ∙ ap (λ (x : BlockJudged). clearedBy p (x .storing)) (j .judge .ensures)))
+    let p = now (a .map) in (
+      ap (λ (x : BlockJudged). x .stepped) (j .judge .ensures),
+      (
+        s .store .ensures .0 ∙ ap₂ (λ (b : List ℕ) (x : BlockJudged). storedBy b m (x .storing)) (k .kept .ensures) (j .judge .ensures),
+        s .store .ensures .1 ∙ ap (λ (x : BlockJudged). clearedBy p (x .storing)) (j .judge .ensures),
+      ),
+    )
 
 pub block-in-spec : {M : Type 1} → statement M
 block-in-spec =

@@ -28,10 +28,11 @@ told : (card : Card) (frame : List ℕ) (memory : ℕ) (map : List ℕ) (j : Fra
     → (sparedTold (j .stepped) (spares card memory map change) ≡ frameOf card frame memory map)
     × (change ≡ frameJudged card frame memory map .change)
 unfolding frameOf
-told card frame memory map j e g =
-    (ap (λ (x : Change). sparedTold (j .stepped) (spares card memory map x)) (sym g)
-    ∙ ap (λ (x : FrameJudged). sparedTold (x .stepped) (spares card memory map (x .change))) e,
-    sym g ∙ ap (λ (x : FrameJudged). x .change) e)
+told card frame memory map j e g = (
+  ap (λ (x : Change). sparedTold (j .stepped) (spares card memory map x)) (sym g)
+      ∙ ap (λ (x : FrameJudged). sparedTold (x .stepped) (spares card memory map (x .change))) e,
+  sym g ∙ ap (λ (x : FrameJudged). x .change) e,
+)
 
 -- src/frames.rt:118:9
 judge-requires : tie.Need-judge-requires
@@ -115,10 +116,13 @@ returns-3 c =
     let p = now (a .map) in
     let tags = a .card .link .tags in
     let t = told (a .card) (now (a .frame)) (length m) p (j .judge .result) (j .judge .ensures) (k .enum-told2 .given .1) in
-    let spared = s .erase .ensures .0 ∙ ap (λ (x : Bool). anySpared p tags x (length m)) (w .csd-protects .ensures) in
-    (c .tell-spared .ensures ∙ ap (sparedTold (j .judge .result .stepped)) spared ∙ t .0,
-    (s .erase .ensures .1 ∙ ap (λ (x : Bool). erased p tags x m) (w .csd-protects .ensures) ∙ ap (erasedBy (a .card) m p) (t .1),
-    ap (protectedBy p) (t .1)))
+    let spared = s .erase .ensures .0 ∙ ap (λ (x : Bool). anySpared p tags x (length m)) (w .csd-protects .ensures) in (
+      c .tell-spared .ensures ∙ ap (sparedTold (j .judge .result .stepped)) spared ∙ t .0,
+      (
+        s .erase .ensures .1 ∙ ap (λ (x : Bool). erased p tags x m) (w .csd-protects .ensures) ∙ ap (erasedBy (a .card) m p) (t .1),
+        ap (protectedBy p) (t .1),
+      ),
+    )
 
 pub frame-spec : {M : Type 1} → statement M
 frame-spec =
