@@ -1,0 +1,142 @@
+-- A block in and a block out keep a card made, by cases on what can become of them (Outcomes.antt).
+--   block-in-made, block-out-made
+-- Assumes nothing.
+use mathlib.Core.Path.{_≡_, refl, subst}
+use mathlib.Core.Bool.{Bool, true}
+use mathlib.Core.List.{List}
+use Prim.Native.Nat.{ℕ, _+_, _*_, _/_, _≤_, _<_}
+use native.Mathlib.Omega.{arith}
+use Rattle.base.specs.declared.Refusal.{Refusal}
+use Rattle.card.specs.BlockIn.{afterRefused, afterStored, withFault, blockRefused, blockGood, blockJudged}
+use Rattle.card.specs.BlockOut.{outRefused, outGood, afterSent, outJudged}
+use Rattle.card.specs.declared.BlockJudged.{BlockJudged}
+use Rattle.card.specs.declared.OutJudged.{OutJudged}
+use Rattle.lock.specs.declared.Lock.{Lock}
+use Rattle.record.specs.Record.{sizeOf, csdProtects, withState, withErrors, withLink, withLock}
+use Rattle.record.specs.declared.Card.{Card}
+use Rattle.record.specs.declared.Link.{Link}
+use Rattle.states.specs.declared.Incoming.{Incoming}
+use Rattle.states.specs.declared.Incoming.the-variants.{One, Many, LockRequest}
+use Rattle.states.specs.declared.Outgoing.{Outgoing}
+use Rattle.states.specs.declared.Outgoing.the-variants.{One as OneOut, Many as ManyOut, Protection}
+use Rattle.states.specs.declared.State.{State}
+use Rattle.states.specs.declared.State.the-variants.{Data, Rcv, Prg}
+use Rattle.status.specs.ErrorBits.{errorBit}
+use Rattle.status.specs.Status.{withBit}
+use Rattle.status.specs.declared.ErrorBit.{ErrorBit}
+use Rattle.status.specs.declared.Errors.{Errors}
+use Rattle.status.specs.declared.Fault.{Fault}
+use Rattle.tags.specs.Tagging.{anyOf}
+use Rattle.made.proofs.Locks.{request-made}
+use Rattle.made.proofs.Outcomes.{sectorOf, asked, Refuses, wrong-length, wrong-crc, past-end, protected, failed, InOutcome, unlent, unexpected, refuses, stores, grants, OutOutcome, unsends, past, across, sends, block-outcome, out-outcome}
+use Rattle.made.proofs.Pending.{set-pending}
+use Rattle.made.specs.Made.{Sends, Awaits, Waits, Pending, MadeLock, MadeLink, Made}
+
+-- a link without tags goes to another state, with another lock flag and other error bits
+relinked : (groups : ℕ) (locked next : Bool) (link : Link) (state : State) (errors : Errors) → MadeLink groups locked link
+    → (anyOf (link .tags) ≡ true → ⊥) → Waits groups (link .length) next state → Pending errors
+    → MadeLink groups next (withErrors (withState link state) errors)
+relinked groups locked next link state errors made untagged waits pending =
+    record {
+      address = made .address;
+      block = made .block;
+      tags = made .tags;
+      tagged = λ e. absurd (untagged e);
+      work = waits;
+      errors = pending;
+    }
+
+module _ (groups length : ℕ) (locked : Bool) where
+  -- what a refused block leaves to be awaited
+  after-refused : (incoming : Incoming) → Awaits groups length locked incoming → Waits groups length locked (afterRefused incoming)
+  after-refused (One at) h = tt
+  after-refused (Many at) h = h
+  after-refused LockRequest h = tt
+
+  -- what one that is stored leaves, at a sector of the memory
+  after-stored : (incoming : Incoming) (sector : ℕ) → Awaits groups length locked incoming → sector < sizeOf groups / 512
+      → Waits groups length locked (afterStored incoming (sector * 512 + 512))
+  after-stored (One at) sector h within = tt
+  after-stored (Many at) sector h within = (h .0, (omega arith, (omega arith, h .1 .1 .1)))
+  after-stored LockRequest sector h within = tt
+
+  -- and what one that is sent leaves, with the address behind it
+  after-sent : (outgoing : Outgoing) (next : ℕ) → Sends groups length locked outgoing → next ≤ sizeOf groups
+      → Waits groups length locked (afterSent outgoing next)
+  after-sent (OneOut at) next h within = tt
+  after-sent (ManyOut at) next h within = (h .0, within)
+  after-sent (Protection group) next h within = tt
+
+refused-pending : (card : Card) (incoming : Incoming) {refusal : Refusal} {fault : Fault} (errors : Errors)
+    → Pending errors → Refuses card incoming refusal fault → Pending (withFault errors fault)
+refused-pending card incoming errors h wrong-length = set-pending errors (errorBit 29) refl h
+refused-pending card incoming errors h wrong-crc = h
+refused-pending card incoming errors h (past-end le) = set-pending errors (errorBit 31) refl h
+refused-pending card incoming errors h protected = set-pending errors (errorBit 26) refl h
+refused-pending card incoming errors h failed = set-pending errors (errorBit 24) refl h
+
+module _ (card : Card) (made : Made card) where
+  abbrev here : State → Type 0
+  here state = Waits (card .registers .groups) (card .link .length) (card .lock .locked) state
+
+  -- there are tags in tran alone
+  rcv-untagged : (incoming : Incoming) → card .link .state ≡ Rcv incoming → anyOf (card .link .tags) ≡ true → ⊥
+  rcv-untagged incoming on t = let tran = made .link .tagged t .0 in let z : _≡_ {A = ℕ} 0 1 = cc in omega arith
+
+  data-untagged : (outgoing : Outgoing) → card .link .state ≡ Data outgoing → anyOf (card .link .tags) ≡ true → ⊥
+  data-untagged outgoing on t = let tran = made .link .tagged t .0 in let z : _≡_ {A = ℕ} 0 1 = cc in omega arith
+
+  -- the card with another link, and with another password record
+  with-link : (state : State) (errors : Errors) → (anyOf (card .link .tags) ≡ true → ⊥) → here state → Pending errors
+      → Made (withLink card (withErrors (withState (card .link) state) errors))
+  with-link state errors untagged waits pending =
+      record {
+        registers = made .registers;
+        lock = made .lock;
+        link = relinked (card .registers .groups) (card .lock .locked) (card .lock .locked) (card .link) state errors (made .link) untagged waits pending;
+      }
+
+  with-lock : (lock : Lock) → MadeLock lock → (anyOf (card .link .tags) ≡ true → ⊥) → Made (withLink (withLock card lock) (withState (card .link) Prg))
+  with-lock lock m untagged =
+      record {
+        registers = made .registers;
+        lock = m;
+        link = relinked (card .registers .groups) (card .lock .locked) (lock .locked) (card .link) Prg (card .link .errors) (made .link) untagged tt (made .link .errors);
+      }
+
+  -- ---- a block in
+  in-kept : {judged : BlockJudged} → InOutcome card judged → Made (judged .stepped .card)
+  unfolding blockRefused blockGood
+  in-kept unlent = made
+  in-kept unexpected = made
+  in-kept (refuses incoming refusal fault on refused) =
+      with-link (afterRefused incoming) (withFault (card .link .errors) fault) (rcv-untagged incoming on)
+      (after-refused (card .registers .groups) (card .link .length) (card .lock .locked) incoming (subst here on (made .link .work)))
+      (refused-pending card incoming (card .link .errors) (made .link .errors) refused)
+  in-kept (stores incoming on within) =
+      with-link (afterStored incoming (sectorOf incoming * 512 + 512)) (card .link .errors) (rcv-untagged incoming on)
+      (after-stored (card .registers .groups) (card .link .length) (card .lock .locked) incoming (sectorOf incoming) (subst here on (made .link .work)) within)
+      (made .link .errors)
+  in-kept (grants payload storing on) =
+      with-lock (asked card payload) (request-made (card .lock) (made .lock) payload (csdProtects (card .registers .csd))) (rcv-untagged LockRequest on)
+
+  pub block-in-made : (block : List ℕ) (memory : ℕ) (map : List ℕ) → Made (blockJudged card block memory map .stepped .card)
+  block-in-made block memory map = in-kept (block-outcome card block memory map)
+
+  -- ---- a block out
+  unsent-kept : (bit : ErrorBit) (outgoing : Outgoing) → card .link .state ≡ Data outgoing → Pending (withBit (card .link .errors) bit)
+      → Made (withLink card (withErrors (card .link) (withBit (card .link .errors) bit)))
+  unsent-kept bit outgoing on pending = with-link (card .link .state) (withBit (card .link .errors) bit) (data-untagged outgoing on) (made .link .work) pending
+
+  out-kept : {judged : OutJudged} → OutOutcome card judged → Made (judged .stepped .card)
+  unfolding outRefused outGood
+  out-kept (unsends refusal) = made
+  out-kept (past outgoing on) = unsent-kept (errorBit 31) outgoing on (set-pending (card .link .errors) (errorBit 31) refl (made .link .errors))
+  out-kept (across outgoing on) = unsent-kept (errorBit 30) outgoing on (set-pending (card .link .errors) (errorBit 30) refl (made .link .errors))
+  out-kept (sends outgoing next n sending on within) =
+      with-link (afterSent outgoing next) (card .link .errors) (data-untagged outgoing on)
+      (after-sent (card .registers .groups) (card .link .length) (card .lock .locked) outgoing next (subst here on (made .link .work)) within)
+      (made .link .errors)
+
+  pub block-out-made : (memory : ℕ) (map : List ℕ) (room : ℕ) → Made (outJudged card memory map room .stepped .card)
+  block-out-made memory map room = out-kept (out-outcome card memory map room)

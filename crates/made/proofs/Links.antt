@@ -1,0 +1,63 @@
+-- Links that are made, where no command's meaning matters.
+--   fresh-made       after power-on and CMD0
+--   damaged-made     after a frame whose CRC7 is wrong
+--   errors-made      with other error bits that can wait
+--   at-waits         the state that a column stands for waits for nothing, or for the work
+--   left-pending     the error bits that an answer leaves
+-- Assumes nothing.
+use mathlib.Core.Path.{refl}
+use mathlib.Core.Bool.{Bool}
+use Prim.Native.Nat.{ℕ}
+use native.Mathlib.Omega.{arith}
+use lib.Dec.{eqb}
+use Rattle.command.specs.Answers.{leftOf}
+use Rattle.command.specs.Command.{damagedLink}
+use Rattle.command.specs.Obey.{stateAt}
+use Rattle.command.specs.declared.Response.{Response}
+use Rattle.command.specs.declared.Response.the-variants.{Nothing, R1, R2, R3}
+use Rattle.record.specs.Power.{freshLink}
+use Rattle.record.specs.Record.{withErrors}
+use Rattle.record.specs.declared.Link.{Link}
+use Rattle.states.specs.States.{columnOf, numberOf}
+use Rattle.states.specs.declared.Column.{Column}
+use Rattle.states.specs.declared.Column.the-variants.{Idle, Ready, Ident, Stby, Tran, Data, Rcv, Prg, Dis, Ina}
+use Rattle.states.specs.declared.State.{State}
+use Rattle.status.specs.ErrorBits.{errorBit}
+use Rattle.status.specs.Status.{withBit}
+use Rattle.status.specs.declared.Errors.{Errors}
+use Rattle.made.proofs.Pending.{none-pending, set-pending, taken-pending}
+use Rattle.made.proofs.Walk.{never, chosen}
+use Rattle.made.specs.Made.{Waits, Pending, MadeLink}
+
+pub fresh-made : (groups : ℕ) (locked : Bool) → MadeLink groups locked freshLink
+unfolding freshLink
+fresh-made groups locked =
+    record { address = omega arith; block = (omega arith, omega arith); tags = tt; tagged = λ e. never e; work = tt; errors = none-pending }
+
+pub errors-made : (groups : ℕ) (locked : Bool) (link : Link) (errors : Errors) → MadeLink groups locked link → Pending errors → MadeLink groups locked (withErrors link errors)
+errors-made groups locked link errors made pending =
+    record { address = made .address; block = made .block; tags = made .tags; tagged = made .tagged; work = made .work; errors = pending }
+
+pub damaged-made : (groups : ℕ) (locked : Bool) (link : Link) → MadeLink groups locked link → MadeLink groups locked (damagedLink link)
+unfolding damagedLink
+damaged-made groups locked link made =
+    chosen (MadeLink groups locked) (eqb (numberOf (columnOf (link .state))) 9) (λ t. made)
+    (λ t. errors-made groups locked link (withBit (link .errors) (errorBit 23)) made (set-pending (link .errors) (errorBit 23) refl (made .errors)))
+
+pub at-waits : (groups length : ℕ) (locked : Bool) (column : Column) (work : State) → Waits groups length locked work → Waits groups length locked (stateAt column work)
+at-waits groups length locked Idle work w = tt
+at-waits groups length locked Ready work w = tt
+at-waits groups length locked Ident work w = tt
+at-waits groups length locked Stby work w = tt
+at-waits groups length locked Tran work w = tt
+at-waits groups length locked Data work w = w
+at-waits groups length locked Rcv work w = w
+at-waits groups length locked Prg work w = tt
+at-waits groups length locked Dis work w = tt
+at-waits groups length locked Ina work w = tt
+
+pub left-pending : (response : Response) (errors : Errors) → Pending errors → Pending (leftOf response errors)
+left-pending Nothing errors h = taken-pending errors h
+left-pending R1 errors h = none-pending
+left-pending R2 errors h = taken-pending errors h
+left-pending R3 errors h = taken-pending errors h

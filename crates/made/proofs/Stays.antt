@@ -1,0 +1,179 @@
+-- A made card stays made.
+--   make-made       a make that is not refused gives a made card
+--   step-made       every call keeps a card made, whatever comes in and whatever is lent
+--   command-made    so does every command that reaches a card on the bus, whether it would win the line or not
+--   damage-made     and every damaged frame
+-- Assumes nothing.
+use mathlib.Core.Path.{_≡_, refl, ap, _∙_}
+use mathlib.Core.Bool.{Bool, true, false, not, _&&_}
+use mathlib.Core.List.{List}
+use Prim.Native.Nat.{ℕ, _/_, _%_}
+use native.Mathlib.Omega.{arith}
+use borrow.Author.Tests.{eqb-true, eqb-false, not-true}
+use lib.Dec.{eqb, leb}
+use lib.ListN.{length}
+use Rattle.base.specs.Refusals.{by}
+use Rattle.base.specs.declared.Refusal.{Refusal}
+use Rattle.card.specs.Frame.{frameJudged, spares, sparedTold, frameOf}
+use Rattle.card.specs.Step.{stepOf}
+use Rattle.card.specs.declared.Call.{Call}
+use Rattle.card.specs.declared.Call.the-variants.{Frame, BlockIn, BlockOut, WorkDone, PowerOn}
+use Rattle.card.specs.declared.FrameJudged.{FrameJudged}
+use Rattle.card.specs.declared.Stepped.{Stepped}
+use Rattle.command.specs.Command.{damagedLink, commandOf}
+use Rattle.lock.specs.Passwords.{poweredOf, madeOf as lockMadeOf}
+use Rattle.lock.specs.declared.Making.the-variants.{Done as LockDone, Refused as LockRefused}
+use Rattle.lock.specs.declared.Making.{Making as LockMaking}
+use Rattle.lock.specs.declared.Lock.{Lock}
+use Rattle.moves.specs.Rows.{window}
+use Rattle.record.specs.Making.{failedMake, lockedBy, passwordMade, madeOf}
+use Rattle.record.specs.Power.{poweredOn, workedState, worked}
+use Rattle.record.specs.Record.{sizeOf, withLink}
+use Rattle.record.specs.declared.Card.{Card}
+use Rattle.record.specs.declared.Made.{Made as MadeOf}
+use Rattle.record.specs.declared.Making.the-variants.{Done}
+use Rattle.record.specs.declared.Registers.{Registers}
+use Rattle.states.specs.declared.State.{State}
+use Rattle.states.specs.declared.State.the-variants.{Idle, Ready, Ident, Stby, Tran, Data, Rcv, Prg, Dis, Ina}
+use Rattle.status.specs.ErrorBits.{errorBit}
+use Rattle.status.specs.Status.{withBit}
+use Rattle.store.specs.Map.{mapRight}
+use Rattle.store.specs.Memory.{sizeAllowed}
+use Rattle.wire.specs.Responses.{registerRight}
+use Rattle.made.proofs.Blocks.{block-in-made, block-out-made}
+use Rattle.made.proofs.Commands.{link-made}
+use Rattle.made.proofs.Links.{fresh-made, errors-made, damaged-made}
+use Rattle.made.proofs.Locks.{made-made, powered-made}
+use Rattle.made.proofs.Outcomes.{FrameOutcome, refused, damaged, commands, frame-outcome}
+use Rattle.made.proofs.Pending.{set-pending}
+use Rattle.made.proofs.Walk.{judged, last}
+use Rattle.made.specs.Made.{Waits, MadeRegisters, MadeLock, Made, metBy}
+
+-- ---- commands
+pub command-made : (card : Card) (wins : Bool) (index argument : ℕ) → Made card → Made (withLink card (commandOf (card .link) (metBy card wins) index argument .link))
+command-made card wins index argument made =
+    record {
+      registers = made .registers;
+      lock = made .lock;
+      link = link-made (card .link) (metBy card wins) index argument (made .link);
+    }
+
+pub damage-made : (card : Card) → Made card → Made (withLink card (damagedLink (card .link)))
+damage-made card made =
+    record {
+      registers = made .registers;
+      lock = made .lock;
+      link = damaged-made (card .registers .groups) (card .lock .locked) (card .link) (made .link);
+    }
+
+-- ---- frames
+module _ (card : Card) (made : Made card) where
+  judged-made : {judged : FrameJudged} → FrameOutcome card judged → Made (judged .stepped .card)
+  judged-made (refused refusal) = made
+  judged-made damaged = damage-made card made
+  judged-made (commands index argument) = command-made card true index argument made
+
+  -- with bit 15, where an erase spared a sector
+  told-made : (stepped : Stepped) (spared : Bool) → Made (stepped .card) → Made (sparedTold stepped spared .card)
+  told-made stepped true m =
+      let next : Card = stepped .card in
+      record {
+        registers = m .registers;
+        lock = m .lock;
+        link = errors-made (next .registers .groups) (next .lock .locked) (next .link) (withBit (next .link .errors) (errorBit 15)) (m .link)
+            (set-pending (next .link .errors) (errorBit 15) refl (m .link .errors));
+      }
+  told-made stepped false m = m
+
+  frame-made : (frame : List ℕ) (memory : ℕ) (map : List ℕ) → Made (frameOf card frame memory map .card)
+  unfolding frameOf
+  frame-made frame memory map =
+      told-made (frameJudged card frame memory map .stepped) (spares card memory map (frameJudged card frame memory map .change))
+      (judged-made (frame-outcome card frame memory map))
+
+-- ---- work done and power-on
+worked-waits : (groups length : ℕ) (locked : Bool) (state : State) → Waits groups length locked state → Waits groups length locked (workedState state)
+worked-waits groups length locked Idle w = tt
+worked-waits groups length locked Ready w = tt
+worked-waits groups length locked Ident w = tt
+worked-waits groups length locked Stby w = tt
+worked-waits groups length locked Tran w = tt
+worked-waits groups length locked (Data outgoing) w = w
+worked-waits groups length locked (Rcv incoming) w = w
+worked-waits groups length locked Prg w = tt
+worked-waits groups length locked Dis w = tt
+worked-waits groups length locked Ina w = tt
+
+worked-made : (card : Card) → Made card → Made (worked card)
+unfolding worked
+worked-made card made =
+    record {
+      registers = made .registers;
+      lock = made .lock;
+      link = record {
+        address = made .link .address;
+        block = made .link .block;
+        tags = made .link .tags;
+        tagged = λ e. (ap workedState (made .link .tagged e .0), made .link .tagged e .1);
+        work = worked-waits (card .registers .groups) (card .link .length) (card .lock .locked) (card .link .state) (made .link .work);
+        errors = made .link .errors;
+      };
+    }
+
+powered-on-made : (card : Card) → Made card → Made (poweredOn card)
+unfolding poweredOn
+powered-on-made card made =
+    record {
+      registers = made .registers;
+      lock = powered-made (card .lock) (made .lock);
+      link = fresh-made (card .registers .groups) (poweredOf (card .lock) .locked);
+    }
+
+-- ---- every call
+pub step-made : (card : Card) (call : Call) (input : List ℕ) (memory : ℕ) (map : List ℕ) (room : ℕ) → Made card → Made (stepOf card call input memory map room .card)
+step-made card Frame input memory map room made = frame-made card made input memory map
+step-made card BlockIn input memory map room made = block-in-made card made input memory map
+step-made card BlockOut input memory map room made = block-out-made card made memory map room
+step-made card WorkDone input memory map room made = worked-made card made
+step-made card PowerOn input memory map room made = powered-on-made card made
+
+-- ---- making
+module _ (registers : Registers) (right : MadeRegisters registers) where
+  locked-by-made : (lock : Lock) (making : LockMaking) → MadeLock lock → lockedBy registers lock making .making ≡ Done → Made (lockedBy registers lock making .card)
+  locked-by-made lock LockDone m e = record { registers = right; lock = m; link = fresh-made (registers .groups) (lock .locked) }
+  locked-by-made lock (LockRefused refusal) m e = let z : _≡_ {A = ℕ} 0 1 = cc in absurd (omega arith)
+
+  password-made : (password : List ℕ) → passwordMade registers password .making ≡ Done → Made (passwordMade registers password .card)
+  unfolding passwordMade
+  password-made password = locked-by-made (lockMadeOf password .lock) (lockMadeOf password .making) (made-made password)
+
+-- a make that is refused makes nothing
+abbrev Makes : MadeOf → Type 0
+Makes made = made .making ≡ Done → Made (made .card)
+
+refused-makes : (refusal : Refusal) → Makes (failedMake refusal)
+refused-makes refusal e = let z : _≡_ {A = ℕ} 0 1 = cc in absurd (omega arith)
+
+-- an allowed size is one of whole protection groups
+whole-groups : (memory : ℕ) → sizeAllowed memory ≡ true → sizeOf (memory / 8192) ≡ memory
+whole-groups memory allowed =
+    omega (arith, eqb-true (memory % 8192) 0 (last (leb 8192 memory && leb memory 33554432) (eqb (memory % 8192) 0) allowed))
+
+pub make-made : (cid csd : List ℕ) (ocr : ℕ) (password : List ℕ) (memory : ℕ) (map : List ℕ)
+    → madeOf cid csd ocr password memory map .making ≡ Done → Made (madeOf cid csd ocr password memory map .card)
+unfolding madeOf
+make-made cid csd ocr password memory map =
+    judged Makes (sizeAllowed memory) (λ e. refused-makes (by 7))
+    (λ allowed.
+    judged Makes (mapRight map (memory / 8192)) (λ e. refused-makes (by 8))
+    (λ e.
+    judged Makes (registerRight cid) (λ e. refused-makes (by 9))
+    (λ cid-right.
+    judged Makes (registerRight csd) (λ e. refused-makes (by 9))
+    (λ csd-right.
+    judged Makes (not (eqb (window ocr) 0)) (λ e. refused-makes (by 10))
+    (λ some.
+    let windowed : window ocr ≡ 0 → ⊥ = eqb-false (window ocr) 0 (not-true (eqb (window ocr) 0) some) in
+    password-made (record { cid = cid; csd = csd; ocr = ocr; groups = memory / 8192 })
+    (record { size = ap sizeAllowed (whole-groups memory allowed) ∙ allowed; cid = cid-right; csd = csd-right; ocr = omega arith })
+    password)))))

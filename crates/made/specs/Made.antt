@@ -1,0 +1,101 @@
+-- A made card: what making gives, and what everything that can happen to a card keeps. `groups` is its number of protection groups,
+-- `length` its block length, `locked` its lock flag.
+-- Assumes nothing.
+use mathlib.Core.Path.{_≡_}
+use mathlib.Core.Bool.{Bool, true, false}
+use mathlib.Core.List.{List, [], _∷_, _++_}
+use Prim.Native.Nat.{ℕ, _+_, _-_, _%_, _≤_, _<_}
+use lib.Bits.{bitAnd}
+use lib.ListN.{length, take, replicate}
+use Rattle.command.specs.declared.Met.{Met}
+use Rattle.lock.specs.declared.Lock.{Lock}
+use Rattle.moves.specs.Rows.{window}
+use Rattle.record.specs.Record.{sizeOf, crosses, longest}
+use Rattle.record.specs.declared.Card.{Card}
+use Rattle.record.specs.declared.Link.{Link}
+use Rattle.record.specs.declared.Registers.{Registers}
+use Rattle.states.specs.declared.Incoming.{Incoming}
+use Rattle.states.specs.declared.Incoming.the-variants.{One as OneIn, Many as ManyIn, LockRequest}
+use Rattle.states.specs.declared.Outgoing.{Outgoing}
+use Rattle.states.specs.declared.Outgoing.the-variants.{One as OneOut, Many as ManyOut, Protection}
+use Rattle.states.specs.declared.State.{State}
+use Rattle.states.specs.declared.State.the-variants.{Idle, Ready, Ident, Stby, Tran, Data, Rcv, Prg, Dis, Ina}
+use Rattle.status.specs.ErrorBits.{errorBit, wordWith}
+use Rattle.status.specs.declared.ErrorBit.{ErrorBit}
+use Rattle.status.specs.declared.Errors.{Errors}
+use Rattle.store.specs.Memory.{sizeAllowed}
+use Rattle.tags.specs.Made.{MadeTags}
+use Rattle.tags.specs.Tagging.{anyOf}
+use Rattle.wire.specs.Responses.{registerRight}
+
+-- what making checks of CID, CSD, OCR and size, by the refusals that it gives else
+pub record MadeRegisters (registers : Registers) : Type 0 where
+  -- 7: "8,192 to 33,554,432 bytes, a multiple of 8,192"
+  pub size : sizeAllowed (sizeOf (registers .groups)) ≡ true
+  -- 9: "CID and CSD end in the CRC7 of their first 15 bytes, then a 1"
+  pub cid : registerRight (registers .cid) ≡ true
+  pub csd : registerRight (registers .csd) ≡ true
+  -- 10: "OCR bits 23..0 all zero"
+  pub ocr : 1 ≤ window (registers .ocr)
+
+pub record MadeLock (lock : Lock) : Type 0 where
+  -- "A password is 0 to 16 bytes; 0 means none": of the 16 bytes the first are the password, and behind it are zeros
+  pub bytes : length (lock .password) ≡ 16
+  pub short : lock .length ≤ 16
+  pub zeros : lock .password ≡ take (lock .length) (lock .password) ++ replicate (16 - lock .length) 0
+  -- "locked exactly if a password is stored", at power-on; and never without one
+  pub locked : lock .locked ≡ true → 1 ≤ lock .length
+
+-- what a card in data is to send. CMD17: no "block past the end", none "crossing a multiple of 2,048"; CMD18 "moves on by one block", at most
+-- to the end; CMD30: the addressed group is one of the card's. "Locked: only class 0 and CMD42 go on"
+abbrev pub Sends : ℕ → ℕ → Bool → Outgoing → Type 0
+Sends groups length locked (OneOut at) = (locked ≡ false) × ((at + length ≤ sizeOf groups) × (crosses at length ≡ false))
+Sends groups length locked (ManyOut at) = (locked ≡ false) × (at ≤ sizeOf groups)
+Sends groups length locked (Protection group) = (locked ≡ false) × (group < groups)
+
+-- what a card in rcv awaits. "CMD24, 25: length must be 512 .., then in range .., then aligned to 512"; CMD25 "moves on 512", at most to the end
+abbrev pub Awaits : ℕ → ℕ → Bool → Incoming → Type 0
+Awaits groups length locked (OneIn at) = (locked ≡ false) × ((at + 512 ≤ sizeOf groups) × ((at % 512 ≡ 0) × (length ≡ 512)))
+Awaits groups length locked (ManyIn at) = (locked ≡ false) × ((at ≤ sizeOf groups) × ((at % 512 ≡ 0) × (length ≡ 512)))
+Awaits groups length locked LockRequest = Unit {0}
+
+-- "Data states carry what they wait for"; the other states wait for nothing
+abbrev pub Waits : ℕ → ℕ → Bool → State → Type 0
+Waits groups length locked Idle = Unit {0}
+Waits groups length locked Ready = Unit {0}
+Waits groups length locked Ident = Unit {0}
+Waits groups length locked Stby = Unit {0}
+Waits groups length locked Tran = Unit {0}
+Waits groups length locked (Data outgoing) = Sends groups length locked outgoing
+Waits groups length locked (Rcv incoming) = Awaits groups length locked incoming
+Waits groups length locked Prg = Unit {0}
+Waits groups length locked Dis = Unit {0}
+Waits groups length locked Ina = Unit {0}
+
+-- the error bits that can wait for the next R1: 28 and 27 never do, since the R1 of the command that sets them shows and clears them
+abbrev pub pendingBits : List ErrorBit
+pendingBits =
+    errorBit 31 ∷ errorBit 30 ∷ errorBit 29 ∷ errorBit 26 ∷ errorBit 24 ∷ errorBit 23 ∷ errorBit 22 ∷ errorBit 15 ∷ errorBit 13 ∷ []
+
+abbrev pub Pending : Errors → Type 0
+Pending errors = bitAnd (errors .bits) (wordWith pendingBits) ≡ errors .bits
+
+pub record MadeLink (groups : ℕ) (locked : Bool) (link : Link) : Type 0 where
+  -- 3: "address taken; address 0: bit 31, stays"
+  pub address : 1 ≤ link .address
+  -- "CMD16: length 1 to 2,048"
+  pub block : (1 ≤ link .length) × (link .length ≤ longest)
+  -- tags lie inside the memory, the start not after the end, sectors in one erase group; they are there in tran alone, on an unlocked card
+  pub tags : MadeTags (sizeOf groups) (link .tags)
+  pub tagged : anyOf (link .tags) ≡ true → (link .state ≡ Tran) × (locked ≡ false)
+  pub work : Waits groups (link .length) locked (link .state)
+  pub errors : Pending (link .errors)
+
+pub record Made (card : Card) : Type 0 where
+  pub registers : MadeRegisters (card .registers)
+  pub lock : MadeLock (card .lock)
+  pub link : MadeLink (card .registers .groups) (card .lock .locked) (card .link)
+
+-- what a command meets at a card that would win the line in CMD2, or would not
+abbrev pub metBy : Card → Bool → Met
+metBy card wins = record { ocr = card .registers .ocr; groups = card .registers .groups; locked = card .lock .locked; wins = wins }

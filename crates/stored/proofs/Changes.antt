@@ -1,0 +1,129 @@
+-- Why memory and map change.
+--   memory-changes    a byte that differs after a step: a granted write to its sector, CMD38 with its sector tagged and free, or a forced erase
+--   map-changes       an entry that differs after a step: CMD28 or CMD29 at its group, or a forced erase
+-- Assumes nothing.
+use mathlib.Core.Path.{_≡_, refl, ap, _∙_}
+use mathlib.Core.Bool.{Bool, true, false, _&&_, not}
+use mathlib.Core.List.{List}
+use mathlib.Core.Logic.{inl, inr}
+use Prim.Native.Nat.{ℕ, _-_, _/_}
+use native.Mathlib.Omega.{arith}
+use borrow.Author.Tests.{ltb-true, ltb-false, eqb-true, eqb-false, not-true}
+use lib.Dec.{eqb, ltb}
+use lib.ListN.{length, getD, take, replicate, length-append, length-take, length-replicate}
+use lib.Seq.{getD-set-other}
+use Rattle.base.specs.Choice.{pick}
+use Rattle.base.proofs.Cases.{cases}
+use Rattle.card.specs.BlockIn.{blockGood, blockJudged, keptOf, storedBy, clearedBy}
+use Rattle.card.specs.Frame.{frameJudged, erasedBy, protectedBy}
+use Rattle.card.specs.Step.{memoryOf, mapOf}
+use Rattle.card.specs.declared.BlockJudged.{BlockJudged}
+use Rattle.card.specs.declared.Call.{Call}
+use Rattle.card.specs.declared.Call.the-variants.{Frame, BlockIn, BlockOut, WorkDone, PowerOn}
+use Rattle.command.specs.declared.Change.{Change}
+use Rattle.record.specs.Record.{csdProtects}
+use Rattle.record.specs.declared.Card.{Card}
+use Rattle.store.specs.Erase.{sectorsIn, filled, erased}
+use Rattle.store.specs.Map.{protectedIn, groupSet}
+use Rattle.store.proofs.Erased.{erased-byte, erased-past}
+use Rattle.store.proofs.Sectors.{written-elsewhere}
+use Rattle.tags.specs.Tags.{taggedOf}
+use Rattle.tags.specs.declared.Tags.{Tags}
+use Rattle.stored.specs.Changes.{Cause, written, erased as by-tag, forced, MapCause, set}
+use Rattle.stored.proofs.Blocks.{Blocks, refuses, stores, grants, forces, blocks, awaits}
+use Rattle.stored.proofs.Commands.{FrameChange, nothing, protects, frees, erases, frame-change}
+
+-- what judging keeps of a block is a sector
+pub kept-length : (block : List ℕ) → length (keptOf block) ≡ 512
+unfolding keptOf
+kept-length block =
+    omega (arith, length-append (take 512 block) (replicate (512 - length block) 0), length-take 512 block, length-replicate {A = ℕ} (512 - length block) 0)
+
+-- a byte that an erase does not fill is as it was
+pub unfilled-byte : (m : List ℕ) (t : Tags) (w : Bool) (memory : List ℕ) (p : ℕ) → filled m t w (p / 512) ≡ false
+    → getD (erased m t w memory) p 0 ≡ getD memory p 0
+unfilled-byte m t w memory p f =
+    cases (ltb (p / 512) (sectorsIn (length memory)))
+    (λ h. erased-byte m t w memory p (ltb-true (p / 512) (sectorsIn (length memory)) h) ∙ simp f)
+    (λ h. erased-past m t w memory p (ltb-false (p / 512) (sectorsIn (length memory)) h))
+
+both : (a b : Bool) → (a && not b) ≡ true → (a ≡ true) × (b ≡ false)
+both true b e = (refl, not-true b e)
+both false b e = absurd (let z : _≡_ {A = ℕ} 0 1 = cc in omega arith)
+
+-- ---- memory
+module _ (card : Card) (input memory map : List ℕ) (p : ℕ) where
+  abbrev Differs : List ℕ → Type 0
+  Differs after = getD after p 0 ≡ getD memory p 0 → ⊥
+
+  frame-byte : {change : Change} → FrameChange card input (length memory) map change → frameJudged card input (length memory) map .change ≡ change
+      → Differs (erasedBy card memory map change) → Cause card Frame input (length memory) map (p / 512)
+  frame-byte nothing e d = absurd (d refl)
+  frame-byte (protects argument c l) e d = absurd (d refl)
+  frame-byte (frees argument c l) e d = absurd (d refl)
+  frame-byte (erases argument c l) e d =
+      let tags : Tags = card .link .tags in
+      let whole : Bool = csdProtects (card .registers .csd) in
+      cases (filled map tags whole (p / 512))
+      (λ f.
+      let parts = both (taggedOf tags (p / 512)) (protectedIn map whole (p / 512)) f in
+      by-tag (record { called = refl; argument = argument; command = c; taken = e; tagged = parts .0; unprotected = parts .1 }))
+      (λ f. absurd (d (unfilled-byte map tags whole memory p f)))
+
+  block-byte : {judged : BlockJudged} → Blocks card input (length memory) map judged → blockJudged card input (length memory) map ≡ judged
+      → Differs (storedBy (keptOf input) memory (judged .storing)) → Cause card BlockIn input (length memory) map (p / 512)
+  unfolding blockGood
+  block-byte (refuses link refusal) e d = absurd (d refl)
+  block-byte (stores incoming at w s lent long in-range free) e d =
+      cases (eqb (p / 512) (at / 512))
+      (λ t.
+      written at (record { called = refl; awaited = awaits card w s; granted = λ room. ap (λ (j : BlockJudged). j .stepped .reply .outcome) e })
+      (eqb-true (p / 512) (at / 512) t))
+      (λ t. absurd (d (written-elsewhere memory (keptOf input) (at / 512) (kept-length input) p (eqb-false (p / 512) (at / 512) t))))
+  block-byte (grants s a) e d = absurd (d refl)
+  block-byte (forces s a) e d = forced (record { called = refl; granted = ap (λ (j : BlockJudged). j .storing) e })
+
+pub memory-changes : (card : Card) (call : Call) (input memory map : List ℕ) (p : ℕ)
+    → (getD (memoryOf card call input memory map) p 0 ≡ getD memory p 0 → ⊥) → Cause card call input (length memory) map (p / 512)
+memory-changes card Frame input memory map p d = frame-byte card input memory map p (frame-change card input (length memory) map) refl d
+memory-changes card BlockIn input memory map p d = block-byte card input memory map p (blocks card input (length memory) map) refl d
+memory-changes card BlockOut input memory map p d = absurd (d refl)
+memory-changes card WorkDone input memory map p d = absurd (d refl)
+memory-changes card PowerOn input memory map p d = absurd (d refl)
+
+-- ---- the map
+module _ (card : Card) (input : List ℕ) (memory : ℕ) (map : List ℕ) (group : ℕ) where
+  abbrev MapDiffers : List ℕ → Type 0
+  MapDiffers after = getD after group 0 ≡ getD map group 0 → ⊥
+
+  addressed : (at : ℕ) (on : Bool) → MapDiffers (groupSet map at on) → group ≡ at
+  addressed at on d =
+      cases (eqb group at) (λ t. eqb-true group at t)
+      (λ t. absurd (d (getD-set-other map at group (pick on 1 0) 0 (eqb-false group at t))))
+
+  frame-entry : {change : Change} → FrameChange card input memory map change → frameJudged card input memory map .change ≡ change
+      → MapDiffers (protectedBy map change) → MapCause card Frame input memory map group
+  frame-entry nothing e d = absurd (d refl)
+  frame-entry (protects argument c l) e d =
+      let g = addressed (argument / 8192) true d in
+      set (record { called = refl; argument = argument; addressed = g; taken = inl (c, rw g e) })
+  frame-entry (frees argument c l) e d =
+      let g = addressed (argument / 8192) false d in
+      set (record { called = refl; argument = argument; addressed = g; taken = inr (c, rw g e) })
+  frame-entry (erases argument c l) e d = absurd (d refl)
+
+  block-entry : {judged : BlockJudged} → Blocks card input memory map judged → blockJudged card input memory map ≡ judged
+      → MapDiffers (clearedBy map (judged .storing)) → MapCause card BlockIn input memory map group
+  unfolding blockGood
+  block-entry (refuses link refusal) e d = absurd (d refl)
+  block-entry (stores incoming at w s lent long in-range free) e d = absurd (d refl)
+  block-entry (grants s a) e d = absurd (d refl)
+  block-entry (forces s a) e d = forced (record { called = refl; granted = ap (λ (j : BlockJudged). j .storing) e })
+
+pub map-changes : (card : Card) (call : Call) (input : List ℕ) (memory : ℕ) (map : List ℕ) (group : ℕ)
+    → (getD (mapOf card call input memory map) group 0 ≡ getD map group 0 → ⊥) → MapCause card call input memory map group
+map-changes card Frame input memory map group d = frame-entry card input memory map group (frame-change card input memory map) refl d
+map-changes card BlockIn input memory map group d = block-entry card input memory map group (blocks card input memory map) refl d
+map-changes card BlockOut input memory map group d = absurd (d refl)
+map-changes card WorkDone input memory map group d = absurd (d refl)
+map-changes card PowerOn input memory map group d = absurd (d refl)

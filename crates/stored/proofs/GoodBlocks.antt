@@ -1,0 +1,82 @@
+-- A good block is stored, so what is written is read back.
+--   good-granted      a block of 512 bytes with its CRC16 is granted wherever the card awaits a write that it can take
+--   write-read        so 512 bytes that are written by CMD24 are read back by CMD17
+--   write-read-many   and so are those of CMD25, stopped by CMD12
+-- Assumes nothing.
+use mathlib.Core.Path.{_≡_, ap, _∙_}
+use mathlib.Core.Bool.{true}
+use mathlib.Core.List.{List, [], _∷_}
+use Prim.Native.Nat.{ℕ, _/_, _%_, _≤_, _<_}
+use native.Mathlib.Omega.{arith}
+use borrow.Author.Tests.{lt-ltb, eq-eqb}
+use lib.Dec.{eqb, leb}
+use lib.ListN.{length, take}
+use lib.Seq.{take-at}
+use Rattle.base.specs.Refusals.{by}
+use Rattle.base.specs.declared.Refusal.{Refusal}
+use Rattle.base.proofs.Cases.{passed}
+use Rattle.card.specs.BlockIn.{blockGood, writeJudged, awaitedJudged, blockJudged}
+use Rattle.card.specs.declared.BlockJudged.{BlockJudged}
+use Rattle.card.specs.declared.Outcome.the-variants.{Done}
+use Rattle.crc.specs.Crc.{crc16}
+use Rattle.record.specs.Record.{sizeOf}
+use Rattle.states.specs.declared.Incoming.{Incoming}
+use Rattle.states.specs.declared.Incoming.the-variants.{One, Many}
+use Rattle.states.specs.declared.State.the-variants.{Rcv}
+use Rattle.wire.specs.Blocks.{blockOf, carried, told, checkedOf}
+use Rattle.wire.specs.declared.Checked.{Checked}
+use Rattle.wire.specs.declared.Checked.the-variants.{Payload, Refused}
+use Rattle.wire.proofs.BlockTheorems.{long, check-after-write}
+use Rattle.stored.specs.ReadBack.{World, after, blockIn, storedThenRead, storedStoppedThenRead, Awaiting, Writable}
+use Rattle.stored.proofs.Blocks.{WritesAt, one, many}
+use Rattle.stored.proofs.ReadBack.{read-back, read-back-many}
+
+no-refusal : (refusal : Refusal) (n : ℕ) → _≡_ {A = Checked} (Refused refusal) (Payload n) → ⊥
+no-refusal refusal n e = let z : _≡_ {A = ℕ} 0 1 = cc in omega arith
+
+-- a block that checks has the CRC16 that it tells
+right-crc : (block : List ℕ) (n : ℕ) → checkedOf block ≡ Payload n → eqb (told block) (crc16 (carried block)) ≡ true
+unfolding checkedOf
+right-crc block n e =
+    let low = passed (leb 3 (length block)) (Refused (by 5)) _ (Payload n) (no-refusal (by 5) n) e in
+    let high = passed (leb (length block) 2050) (Refused (by 5)) _ (Payload n) (no-refusal (by 5) n) (low .1) in
+    passed (eqb (told block) (crc16 (carried block))) (Refused (by 17)) _ (Payload n) (no-refusal (by 17) n) (high .1) .0
+
+module _ (w : World) (payload : List ℕ) (at : ℕ) (sector : length payload ≡ 512) (writable : Writable w at) where
+  block-long : length (blockOf payload) ≡ 514
+  block-long = omega (arith, long payload)
+
+  crc-right : eqb (told (blockOf payload)) (crc16 (carried (blockOf payload))) ≡ true
+  crc-right = right-crc (blockOf payload) (length payload) (check-after-write payload (omega arith) (omega arith))
+
+  in-memory : at / 512 < sizeOf (w .card .registers .groups) / 512
+  in-memory = omega (arith, writable .in-range)
+
+  write-good : {incoming : Incoming} → WritesAt incoming at → awaitedJudged (w .card) incoming (blockOf payload) (w .map) .stepped .reply .outcome ≡ Done
+  unfolding awaitedJudged writeJudged blockGood
+  write-good (one at) =
+      rw (eq-eqb (length (blockOf payload)) 514 block-long, crc-right, lt-ltb (at / 512) (sizeOf (w .card .registers .groups) / 512) in-memory, writable .free)
+  write-good (many at) =
+      rw (eq-eqb (length (blockOf payload)) 514 block-long, crc-right, lt-ltb (at / 512) (sizeOf (w .card .registers .groups) / 512) in-memory, writable .free)
+
+  reaches : (incoming : Incoming) → w .card .link .state ≡ Rcv incoming
+      → blockJudged (w .card) (blockOf payload) (length (w .memory)) (w .map) ≡ awaitedJudged (w .card) incoming (blockOf payload) (w .map)
+  unfolding blockJudged
+  reaches incoming state = rw (writable .lent, state)
+
+  pub good-granted : {incoming : Incoming} → WritesAt incoming at → w .card .link .state ≡ Rcv incoming → blockIn w (blockOf payload) .outcome ≡ Done
+  unfolding after
+  good-granted {incoming} writes state = ap (λ (j : BlockJudged). j .stepped .reply .outcome) (reaches incoming state) ∙ write-good writes
+
+  payload-back : take 512 (blockOf payload) ≡ payload
+  unfolding blockOf
+  payload-back = take-at payload (crc16 payload / 256 ∷ crc16 payload % 256 ∷ []) 512 sector
+
+  module _ (awaiting : Awaiting (w .card) at) (room : 514 ≤ length (w .output)) where
+    pub write-read : w .card .link .state ≡ Rcv (One at) → take 514 (storedThenRead w (blockOf payload) at .output) ≡ blockOf payload
+    write-read state =
+        read-back w (blockOf payload) at awaiting room state (good-granted (one at) state) .front ∙ ap blockOf payload-back
+
+    pub write-read-many : w .card .link .state ≡ Rcv (Many at) → take 514 (storedStoppedThenRead w (blockOf payload) at .output) ≡ blockOf payload
+    write-read-many state =
+        read-back-many w (blockOf payload) at awaiting room state (good-granted (many at) state) .front ∙ ap blockOf payload-back

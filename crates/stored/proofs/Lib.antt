@@ -1,0 +1,10 @@
+pub mod Blocks
+pub mod Changes
+pub mod Commands
+pub mod GoodBlocks
+pub mod Locked
+pub mod Protected
+pub mod ReadBack
+pub mod Requests
+pub mod Runs
+pub mod WrongAnswers

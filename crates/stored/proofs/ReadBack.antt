@@ -1,0 +1,233 @@
+-- What was stored is read back.
+--   read-back         a block that CMD24 stored: work done, CMD16 of 512, CMD17 at its address and a block out give the same 512 bytes
+--   read-back-many    the same of a block that CMD25 stored, with CMD12 before work done
+-- Assumes nothing.
+use mathlib.Core.Path.{_≡_, refl, sym, ap, _∙_}
+use mathlib.Core.Bool.{Bool, true, false, _&&_}
+use mathlib.Core.List.{List, [], _∷_, append-nil}
+use Prim.Native.Nat.{ℕ, _+_, _*_, _/_, _%_, _^_, _≤_, _<_}
+use native.Mathlib.Omega.{arith}
+use borrow.Author.Tests.{eqb-true, le-leb, le-ltb}
+use lib.Dec.{eqb}
+use lib.ListN.{length, take, drop, length-append, length-drop}
+use lib.Seq.{length-take-le, take-at}
+use Rattle.card.specs.BlockIn.{afterStored, blockGood, blockJudged, keptOf, storedBy, clearedBy}
+use Rattle.card.specs.BlockOut.{partJudged, outGood, outJudged, partSent, sentOut}
+use Rattle.card.specs.Frame.{metAlone, frameJudged, erasedBy, protectedBy}
+use Rattle.card.specs.declared.BlockJudged.{BlockJudged}
+use Rattle.card.specs.declared.Call.the-variants.{WorkDone}
+use Rattle.card.specs.declared.FrameJudged.{FrameJudged}
+use Rattle.card.specs.declared.OutJudged.{OutJudged}
+use Rattle.card.specs.declared.Outcome.the-variants.{Done, Wrote}
+use Rattle.card.specs.declared.Sending.the-variants.{Part}
+use Rattle.card.specs.declared.Stepped.{Stepped}
+use Rattle.card.specs.declared.Storing.the-variants.{Sector}
+use Rattle.command.specs.Command.{commandOf}
+use Rattle.command.specs.declared.Change.the-variants.{Nothing}
+use Rattle.crc.specs.Crc.{crc16}
+use Rattle.record.specs.Power.{workedState, worked}
+use Rattle.record.specs.Record.{sizeOf}
+use Rattle.record.specs.declared.Card.{Card}
+use Rattle.states.specs.declared.Incoming.{Incoming}
+use Rattle.states.specs.declared.Incoming.the-variants.{One, Many, LockRequest}
+use Rattle.states.specs.declared.Outgoing.the-variants.{One as OneOut}
+use Rattle.states.specs.declared.State.{State}
+use Rattle.states.specs.declared.State.the-variants.{Tran, Data, Rcv, Prg}
+use Rattle.store.specs.Map.{lentRight, mapRight}
+use Rattle.store.specs.Memory.{sectorWritten, partOf}
+use Rattle.store.proofs.Sectors.{written-length, read-back as sector-back}
+use Rattle.wire.specs.Blocks.{blockOf}
+use Rattle.wire.specs.Frames.{commandFrame}
+use Rattle.stored.specs.ReadBack.{World, after, commanded, blockIn, readAgain, storedThenRead, storedStoppedThenRead, Awaiting, ReadsBack}
+use Rattle.stored.proofs.Blocks.{WritesAt, one, many, Blocks, refuses, stores, grants, forces, blocks}
+use Rattle.stored.proofs.Changes.{kept-length}
+use Rattle.stored.proofs.Runs.{read-framing, Leaves, leaves-12, leaves-16, leaves-17, frame-judged, frame-step}
+
+-- ---- the block in
+record Stored (card : Card) (incoming : Incoming) (at : ℕ) (block : List ℕ) (memory : ℕ) (map : List ℕ) (judged : BlockJudged) : Type 0 where
+  is : judged ≡ blockGood card (afterStored incoming (at / 512 * 512 + 512)) (Sector (at / 512))
+  lent : lentRight memory map (card .registers .groups) ≡ true
+  long : length block ≡ 514
+  in-range : at / 512 < sizeOf (card .registers .groups) / 512
+
+only : {i j : Incoming} {a b : ℕ} → WritesAt i a → WritesAt j b → i ≡ j → a ≡ b
+only (one a) (one b) e = cc
+only (one a) (many b) e = let z : _≡_ {A = ℕ} 0 1 = cc in absurd (omega arith)
+only (many a) (one b) e = let z : _≡_ {A = ℕ} 0 1 = cc in absurd (omega arith)
+only (many a) (many b) e = cc
+
+no-write : {P : Type 0} {incoming : Incoming} {at : ℕ} → WritesAt incoming at → incoming ≡ LockRequest → P
+no-write (one at) e = let z : _≡_ {A = ℕ} 0 1 = cc in absurd (omega arith)
+no-write (many at) e = let z : _≡_ {A = ℕ} 0 1 = cc in absurd (omega arith)
+
+module _ (card : Card) (block : List ℕ) (memory : ℕ) (map : List ℕ) (incoming : Incoming) (at : ℕ) (w : WritesAt incoming at) (state : card .link .state ≡ Rcv incoming) where
+  stored-as : {judged : BlockJudged} → Blocks card block memory map judged → judged .stepped .reply .outcome ≡ Done → Stored card incoming at block memory map judged
+  unfolding blockGood
+  stored-as (refuses link refusal) d = let z : _≡_ {A = ℕ} 0 1 = cc in absurd (omega arith)
+  stored-as (stores other place v s lent long in-range free) d =
+      let ei : other ≡ incoming = cc in
+      let ea : place ≡ at = only v w ei in
+      record { is = rw (ei, ea); lent = lent; long = long; in-range = rw ea at in-range }
+  stored-as (grants s a) d = no-write w (cc)
+  stored-as (forces s a) d = no-write w (cc)
+
+-- ---- the run
+first : (a b : Bool) → (a && b) ≡ true → a ≡ true
+first true b e = refl
+first false b e = e
+
+module _ (groups : ℕ) (memory map output : List ℕ) (lent : lentRight (length memory) map groups ≡ true) where
+  -- an unlocked card in this state, lent the same all the way
+  record Holds (state : State) (w : World) : Type 0 where
+    groups-are : w .card .registers .groups ≡ groups
+    unlocked : w .card .lock .locked ≡ false
+    state-is : w .card .link .state ≡ state
+    memory-is : w .memory ≡ memory
+    map-is : w .map ≡ map
+    output-is : w .output ≡ output
+
+  lent-to : (w : World) {state : State} → Holds state w → lentRight (length (w .memory)) (w .map) (w .card .registers .groups) ≡ true
+  lent-to w h = rw (h .memory-is, h .map-is, h .groups-are) lent
+
+  by-frame : (w : World) {from : State} (there : State) (n index argument : ℕ) → Holds from w → index < 64 → argument < 2 ^ 32
+      → Leaves there n (commandOf (w .card .link) (metAlone (w .card)) index argument)
+      → Holds there (commanded w index argument) × (commanded w index argument .card .link .length ≡ n)
+  unfolding after
+  by-frame w there n index argument h hi ha l =
+      let frame : List ℕ = commandFrame index argument in
+      let is = read-framing index argument hi ha in
+      let judged = frame-judged (w .card) frame (length (w .memory)) (w .map) index argument is (lent-to w h) in
+      let step = frame-step (w .card) frame (length (w .memory)) (w .map) index argument is (lent-to w h) (l .unchanged) in
+      let change : frameJudged (w .card) frame (length (w .memory)) (w .map) .change ≡ Nothing = ap (λ (j : FrameJudged). j .change) judged ∙ l .unchanged in (
+        record {
+          groups-are = ap (λ (s : Stepped). s .card .registers .groups) step ∙ h .groups-are;
+          unlocked = ap (λ (s : Stepped). s .card .lock .locked) step ∙ h .unlocked;
+          state-is = ap (λ (s : Stepped). s .card .link .state) step ∙ l .state-is;
+          memory-is = ap (erasedBy (w .card) (w .memory) (w .map)) change ∙ h .memory-is;
+          map-is = ap (protectedBy (w .map)) change ∙ h .map-is;
+          output-is = h .output-is;
+        },
+        ap (λ (s : Stepped). s .card .link .length) step ∙ l .length-is,
+      )
+
+  by-work : (w : World) → Holds Prg w → Holds Tran (after w WorkDone [])
+  unfolding after worked
+  by-work w h =
+      record {
+        groups-are = h .groups-are;
+        unlocked = h .unlocked;
+        state-is = ap workedState (h .state-is);
+        memory-is = h .memory-is;
+        map-is = h .map-is;
+        output-is = h .output-is;
+      }
+
+  module _ (at : ℕ) (in-range : at + 512 ≤ sizeOf groups) (aligned : at % 512 ≡ 0) (small : at < 2 ^ 32) (room : 514 ≤ length output) where
+    -- what goes out of a card in data
+    out-judged : (card : Card) → card .registers .groups ≡ groups → card .link .state ≡ Data (OneOut at) → card .link .length ≡ 512
+        → outJudged card (length memory) map (length output) ≡ outGood card Tran 512 (Part at 512)
+    unfolding outJudged partJudged
+    out-judged card g s n =
+        simp (g, lent, s, n, le-leb 514 (length output) room, le-leb (at + 512) (sizeOf groups) in-range, le-ltb 2048 (at % 2048 + 512) (omega arith))
+
+    block-length : (payload : List ℕ) → length payload ≡ 512 → length (blockOf payload) ≡ 514
+    unfolding blockOf
+    block-length payload e = omega (arith, length-append payload (crc16 payload / 256 ∷ crc16 payload % 256 ∷ []))
+
+    sent-front : at + 512 ≤ length memory → take 514 (partSent memory at 512 output) ≡ blockOf (partOf memory at 512)
+    unfolding partSent
+    sent-front h =
+        simp (le-leb 514 (length output) room, le-leb (at + 512) (length memory) h)
+        (take-at (blockOf (partOf memory at 512)) (drop 514 output) 514
+        (block-length (partOf memory at 512) (length-take-le 512 (drop at memory) (omega (arith, length-drop at memory)))))
+
+    whole : at + 512 ≤ length memory
+    whole = omega (arith, eqb-true (length memory) (groups * 8192) (first (eqb (length memory) (groups * 8192)) (mapRight map groups) lent))
+
+    again : (w : World) → Holds Prg w → (readAgain w at .outcome ≡ Wrote 514) × (take 514 (readAgain w at .output) ≡ blockOf (partOf memory at 512))
+    unfolding readAgain after outGood
+    again w h =
+        let w1 : World = after w WorkDone [] in
+        let h1 : Holds Tran w1 = by-work w h in
+        let w2 : World = commanded w1 16 512 in
+        let h2 = by-frame w1 Tran 512 16 512 h1 (omega arith) (omega arith) (leaves-16 (w1 .card) (h1 .unlocked) (h1 .state-is)) in
+        let reach : at + 512 ≤ sizeOf (w2 .card .registers .groups) = rw (h2 .0 .groups-are) in-range in
+        let w3 : World = commanded w2 17 at in
+        let h3 =
+        by-frame w2 (Data (OneOut at)) 512 17 at (h2 .0) (omega arith) small
+        (leaves-17 (w2 .card) (h2 .0 .unlocked) at reach aligned (h2 .0 .state-is) (h2 .1))
+        in
+        let sent : outJudged (w3 .card) (length (w3 .memory)) (w3 .map) (length (w3 .output)) ≡ outGood (w3 .card) Tran 512 (Part at 512) =
+        rw (h3 .0 .memory-is, h3 .0 .map-is, h3 .0 .output-is) (out-judged (w3 .card) (h3 .0 .groups-are) (h3 .0 .state-is) (h3 .1))
+        in (
+          ap (λ (j : OutJudged). j .stepped .reply .outcome) sent,
+          ap (λ (j : OutJudged). take 514 (sentOut (w3 .memory) (w3 .map) (w3 .output) (j .sending))) sent
+              ∙ rw (h3 .0 .memory-is, h3 .0 .output-is) (sent-front whole),
+        )
+
+-- ---- the theorems
+kept-is : (block : List ℕ) → length block ≡ 514 → keptOf block ≡ take 512 block
+unfolding keptOf
+kept-is block long = rw long (append-nil (take 512 block))
+
+module _ (w : World) (block : List ℕ) (at : ℕ) (awaiting : Awaiting (w .card) at) (room : 514 ≤ length (w .output)) where
+  abbrev after-memory : List ℕ
+  after-memory = sectorWritten (w .memory) (at / 512) (keptOf block)
+
+  module _ (incoming : Incoming) (writes : WritesAt incoming at) (state : w .card .link .state ≡ Rcv incoming) (granted : blockIn w block .outcome ≡ Done) where
+    judged : Stored (w .card) incoming at block (length (w .memory)) (w .map) (blockJudged (w .card) block (length (w .memory)) (w .map))
+    unfolding after
+    judged = stored-as (w .card) block (length (w .memory)) (w .map) incoming at writes state (blocks (w .card) block (length (w .memory)) (w .map)) granted
+
+    -- a block that was granted lies in memory
+    in-memory : at + 512 ≤ sizeOf (w .card .registers .groups)
+    in-memory = omega (arith, judged .in-range, awaiting .aligned)
+
+    still-lent : lentRight (length after-memory) (w .map) (w .card .registers .groups) ≡ true
+    still-lent = rw (written-length (w .memory) (keptOf block) (at / 512) (kept-length block)) (judged .lent)
+
+    stored-holds : Holds (w .card .registers .groups) after-memory (w .map) (w .output) still-lent (afterStored incoming (at / 512 * 512 + 512)) (blockIn w block)
+    unfolding after blockGood
+    stored-holds =
+        let e = judged .is in
+        record {
+          groups-are = ap (λ (j : BlockJudged). j .stepped .card .registers .groups) e;
+          unlocked = ap (λ (j : BlockJudged). j .stepped .card .lock .locked) e ∙ awaiting .unlocked;
+          state-is = ap (λ (j : BlockJudged). j .stepped .card .link .state) e;
+          memory-is = ap (λ (j : BlockJudged). storedBy (keptOf block) (w .memory) (j .storing)) e;
+          map-is = ap (λ (j : BlockJudged). clearedBy (w .map) (j .storing)) e;
+          output-is = refl;
+        }
+
+    -- the part that goes out is the block's 512 bytes
+    same-bytes : partOf after-memory at 512 ≡ take 512 block
+    same-bytes =
+        let place : at / 512 * 512 ≡ at = omega (arith, awaiting .aligned) in
+        let size : length (w .memory) ≡ w .card .registers .groups * 8192 =
+        eqb-true (length (w .memory)) (w .card .registers .groups * 8192)
+        (first (eqb (length (w .memory)) (w .card .registers .groups * 8192)) (mapRight (w .map) (w .card .registers .groups)) (judged .lent))
+        in
+        ap (λ (k : ℕ). partOf after-memory k 512) (sym place)
+        ∙ sector-back (w .memory) (keptOf block) (at / 512) (kept-length block) (omega (arith, in-memory))
+        ∙ kept-is block (judged .long)
+
+    reads : (v : World) → Holds (w .card .registers .groups) after-memory (w .map) (w .output) still-lent Prg v → ReadsBack block (readAgain v at)
+    reads v h =
+        let r =
+        again (w .card .registers .groups) after-memory (w .map) (w .output) still-lent at in-memory (awaiting .aligned) (awaiting .small) room v h
+        in
+        record { wrote = r .0; front = r .1 ∙ ap blockOf same-bytes }
+
+  pub read-back : w .card .link .state ≡ Rcv (One at) → blockIn w block .outcome ≡ Done → ReadsBack block (storedThenRead w block at)
+  read-back state granted = reads (One at) (one at) state granted (blockIn w block) (stored-holds (One at) (one at) state granted)
+
+  pub read-back-many : w .card .link .state ≡ Rcv (Many at) → blockIn w block .outcome ≡ Done → ReadsBack block (storedStoppedThenRead w block at)
+  read-back-many state granted =
+      let next : ℕ = at / 512 * 512 + 512 in
+      let v : World = blockIn w block in
+      let h = stored-holds (Many at) (many at) state granted in
+      let stopped =
+      by-frame (w .card .registers .groups) after-memory (w .map) (w .output) (still-lent (Many at) (many at) state granted) v Prg
+      (v .card .link .length) 12 0 h (omega arith) (omega arith) (leaves-12 (v .card) (h .unlocked) (Many next) (h .state-is))
+      in
+      reads (Many at) (many at) state granted (commanded v 12 0) (stopped .0)

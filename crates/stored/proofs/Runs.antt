@@ -1,0 +1,110 @@
+-- What the commands of a run that reads do to an unlocked card.
+--   read-framing      a written frame is framed, and its CRC7 right
+--   Leaves            the state and the block length that a command leaves, and that nothing changes in what is lent
+--   leaves-12, leaves-16, leaves-17    CMD12 in rcv, CMD16 of 512 in tran, CMD17 in tran at an aligned address in range
+--   frame-judged, frame-step    a frame that carries such a command leaves what the command leaves
+-- Assumes nothing.
+use mathlib.Core.Path.{_≡_, refl, sym, ap, subst, _∙_}
+use mathlib.Core.Bool.{Bool, true, false}
+use mathlib.Core.List.{List}
+use Prim.Native.Nat.{ℕ, _+_, _%_, _^_, _≤_, _<_}
+use native.Mathlib.Omega.{arith}
+use borrow.Author.Tests.{le-leb, le-ltb}
+use Rattle.card.specs.Frame.{metAlone, commanded, frameJudged, spares, sparedTold, frameOf as frameStep}
+use Rattle.card.specs.declared.FrameJudged.{FrameJudged}
+use Rattle.command.specs.Answers.{answered}
+use Rattle.command.specs.Arguments.{argumentFault}
+use Rattle.command.specs.Command.{concluded, takenOf, commandOf}
+use Rattle.command.specs.Obey.{leaving, taggingOf, judgedOf, awaitedBy, obeyed, changeOf}
+use Rattle.command.specs.declared.Change.{Change}
+use Rattle.command.specs.declared.Change.the-variants.{Nothing}
+use Rattle.command.specs.declared.Commanded.{Commanded}
+use Rattle.command.specs.declared.Met.{Met}
+use Rattle.moves.specs.Moves.{moveOf}
+use Rattle.moves.specs.Rows.{transferRow, rowOf}
+use Rattle.record.specs.Record.{sizeOf}
+use Rattle.record.specs.declared.Card.{Card}
+use Rattle.record.specs.declared.Link.{Link}
+use Rattle.states.specs.declared.Incoming.{Incoming}
+use Rattle.states.specs.declared.Outgoing.the-variants.{One}
+use Rattle.states.specs.declared.State.{State}
+use Rattle.states.specs.declared.State.the-variants.{Tran, Data, Rcv, Prg}
+use Rattle.store.specs.Map.{lentRight}
+use Rattle.tags.specs.Tagging.{noTags}
+use Rattle.wire.specs.Frames.{commandFrame, framingOf, checked, frameOf}
+use Rattle.wire.specs.declared.Frame.the-variants.{Command}
+use Rattle.wire.specs.declared.Framing.{Framing}
+use Rattle.wire.specs.declared.Framing.the-variants.{Framed, Unframed}
+use Rattle.wire.proofs.FrameTheorems.{read-after-write}
+
+right : (framing : Framing) (index argument : ℕ) → checked framing ≡ Command index argument → framing ≡ Framed index argument true
+right (Framed i a true) index argument e = let ei : i ≡ index = cc in let ea : a ≡ argument = cc in rw (ei, ea)
+right (Framed i a false) index argument e = let z : _≡_ {A = ℕ} 0 1 = cc in absurd (omega arith)
+right (Unframed refusal) index argument e = let z : _≡_ {A = ℕ} 0 1 = cc in absurd (omega arith)
+
+pub read-framing : (index argument : ℕ) → index < 64 → argument < 2 ^ 32 → framingOf (commandFrame index argument) ≡ Framed index argument true
+unfolding frameOf
+read-framing index argument hi ha = right (framingOf (commandFrame index argument)) index argument (read-after-write index argument hi ha)
+
+pub record Leaves (state : State) (length : ℕ) (given : Commanded) : Type 0 where
+  pub state-is : given .link .state ≡ state
+  pub length-is : given .link .length ≡ length
+  pub unchanged : given .change ≡ Nothing
+
+-- what a command meets at an unlocked card
+abbrev open-met : Card → Bool → Met
+open-met card locked = record { ocr = card .registers .ocr; groups = card .registers .groups; locked = locked; wins = true }
+
+abbrev sized : Link → State → ℕ → Link
+sized link s n = record { state = s; address = link .address; length = n; errors = link .errors; tags = link .tags }
+
+-- a property of a command at an unlocked card with this state and block length
+at-open : (P : Commanded → Type 0) (card : Card) (index argument : ℕ) (s : State) (n : ℕ) → card .lock .locked ≡ false → card .link .state ≡ s → card .link .length ≡ n
+    → P (commandOf (sized (card .link) s n) (open-met card false) index argument) → P (commandOf (card .link) (metAlone card) index argument)
+at-open P card index argument s n l e k h =
+    subst (λ (b : Bool). P (commandOf (card .link) (open-met card b) index argument)) (sym l)
+    (subst (λ (m : ℕ). P (commandOf (sized (card .link) (card .link .state) m) (open-met card false) index argument)) (sym k)
+    (subst (λ (x : State). P (commandOf (sized (card .link) x n) (open-met card false) index argument)) (sym e) h))
+
+module _ (card : Card) (unlocked : card .lock .locked ≡ false) where
+  stop : (incoming : Incoming) (n : ℕ) → Leaves Prg n (commandOf (sized (card .link) (Rcv incoming) n) (open-met card false) 12 0)
+  unfolding commandOf rowOf moveOf takenOf judgedOf taggingOf argumentFault concluded answered obeyed awaitedBy changeOf
+  stop incoming n = record { state-is = refl; length-is = refl; unchanged = refl }
+
+  size : (n : ℕ) → Leaves Tran 512 (commandOf (sized (card .link) Tran n) (open-met card false) 16 512)
+  unfolding commandOf rowOf transferRow moveOf takenOf judgedOf taggingOf argumentFault concluded answered obeyed awaitedBy changeOf
+  size n = record { state-is = refl; length-is = refl; unchanged = refl }
+
+  pub leaves-12 : (incoming : Incoming) → card .link .state ≡ Rcv incoming → Leaves Prg (card .link .length) (commandOf (card .link) (metAlone card) 12 0)
+  leaves-12 incoming e =
+      at-open (Leaves Prg (card .link .length)) card 12 0 (Rcv incoming) (card .link .length) unlocked e refl (stop incoming (card .link .length))
+
+  pub leaves-16 : card .link .state ≡ Tran → Leaves Tran 512 (commandOf (card .link) (metAlone card) 16 512)
+  leaves-16 e = at-open (Leaves Tran 512) card 16 512 Tran (card .link .length) unlocked e refl (size (card .link .length))
+
+  module _ (at : ℕ) (in-range : at + 512 ≤ sizeOf (card .registers .groups)) (aligned : at % 512 ≡ 0) where
+    no-fault : judgedOf (sized (card .link) Tran 512) (card .registers .groups) false 17 at ≡ leaving noTags
+    unfolding judgedOf taggingOf argumentFault
+    no-fault = simp (le-leb (at + 512) (sizeOf (card .registers .groups)) in-range, le-ltb 2048 (at % 2048 + 512) (omega arith))
+
+    read : Leaves (Data (One at)) 512 (commandOf (sized (card .link) Tran 512) (open-met card false) 17 at)
+    unfolding commandOf rowOf transferRow moveOf takenOf concluded answered obeyed awaitedBy changeOf
+    read = rw no-fault (record { state-is = refl; length-is = refl; unchanged = refl })
+
+    pub leaves-17 : card .link .state ≡ Tran → card .link .length ≡ 512 → Leaves (Data (One at)) 512 (commandOf (card .link) (metAlone card) 17 at)
+    leaves-17 e n = at-open (Leaves (Data (One at)) 512) card 17 at Tran 512 unlocked e n read
+
+module _ (card : Card) (frame : List ℕ) (memory : ℕ) (map : List ℕ) (index argument : ℕ)
+    (is : framingOf frame ≡ Framed index argument true) (lent : lentRight memory map (card .registers .groups) ≡ true) where
+  pub frame-judged : frameJudged card frame memory map ≡ commanded card (commandOf (card .link) (metAlone card) index argument)
+  unfolding frameJudged
+  frame-judged = rw (lent, is)
+
+  -- where nothing changes in what is lent, nothing is spared
+  pub frame-step : commandOf (card .link) (metAlone card) index argument .change ≡ Nothing
+      → frameStep card frame memory map ≡ commanded card (commandOf (card .link) (metAlone card) index argument) .stepped
+  unfolding frameStep
+  frame-step unchanged =
+      let given : Commanded = commandOf (card .link) (metAlone card) index argument in
+      ap (λ (j : FrameJudged). sparedTold (j .stepped) (spares card memory map (j .change))) frame-judged
+      ∙ ap (λ (c : Change). sparedTold (commanded card given .stepped) (spares card memory map c)) unchanged

@@ -1,0 +1,178 @@
+-- Wrong answers that the predicates of specs/ rule out: a step that did so would need a cause that there is none of.
+--   power-erases, work-erases, out-erases    a byte that changes at power-on, at work done, at a block out
+--   spared-erased, untagged-erased           a frame that fills a sector that is protected, or one that is not tagged
+--   status-erases                            a byte that changes at CMD13
+--   refused-stores                           a refused block that is stored
+--   power-clears, status-protects            an entry that changes at power-on, or at CMD13
+--   set-clears                               CMD28 that clears a group
+--   frame-unlocks                            a locked card that a frame unlocks
+--   prefix-unlocks, set-unlocks              an unlock with a password of another length, or by a request whose byte 0 is 1
+--   password-kept                            power-on that unlocks a card with a password of one byte
+-- and samples that antt computes, so that no theorem holds for want of cases:
+--   write-happens, erase-happens, force-happens    a byte that changes by each cause
+--   protect-happens, free-happens, clear-happens   an entry that changes by each cause
+--   unlock-happens                                 a locked card that its password unlocks
+-- Assumes nothing.
+use mathlib.Core.Path.{_≡_, refl, sym, ap, _∙_}
+use mathlib.Core.Bool.{true, false}
+use mathlib.Core.List.{List, [], _∷_}
+use mathlib.Core.Logic.{_⊎_, inl, inr}
+use Prim.Native.Nat.{ℕ}
+use native.Mathlib.Omega.{arith}
+use lib.ListN.{length, getD, replicate}
+use Rattle.base.specs.declared.Refusal.{Refusal}
+use Rattle.card.specs.BlockIn.{blockGood, writeJudged, requestJudged, awaitedJudged, blockJudged, keptOf}
+use Rattle.card.specs.Frame.{frameJudged}
+use Rattle.card.specs.Step.{stepOf, memoryOf, mapOf}
+use Rattle.card.specs.declared.Call.{Call}
+use Rattle.card.specs.declared.Call.the-variants.{Frame, BlockIn, BlockOut, WorkDone, PowerOn}
+use Rattle.card.specs.declared.Outcome.the-variants.{Refused}
+use Rattle.command.specs.Answers.{answered}
+use Rattle.command.specs.Arguments.{argumentFault}
+use Rattle.command.specs.Command.{concluded, takenOf, commandOf}
+use Rattle.command.specs.Obey.{taggingOf, judgedOf, changeOf}
+use Rattle.command.specs.declared.Change.the-variants.{Protect}
+use Rattle.crc.specs.Bits.{bits}
+use Rattle.crc.specs.Crc.{divide, remainder, checkSum, crc16}
+use Rattle.lock.specs.Passwords.{stored, same, holding, noPassword}
+use Rattle.lock.specs.Requests.{carried as passwordIn, presented, requestOf}
+use Rattle.lock.specs.declared.Lock.{Lock}
+use Rattle.moves.specs.Moves.{moveOf}
+use Rattle.moves.specs.Rows.{transferRow, rowOf}
+use Rattle.record.specs.Record.{csdProtects}
+use Rattle.record.specs.declared.Card.{Card}
+use Rattle.states.specs.declared.Incoming.the-variants.{One, LockRequest}
+use Rattle.states.specs.declared.State.{State}
+use Rattle.states.specs.declared.State.the-variants.{Tran, Rcv}
+use Rattle.status.specs.Status.{noErrors}
+use Rattle.store.specs.Erase.{erasedSector, sectorErased, erasedTo, erased}
+use Rattle.store.specs.Map.{entriesRight, protectedIn}
+use Rattle.store.specs.Memory.{sectorWritten}
+use Rattle.tags.specs.Tagging.{noTags, tagsOf}
+use Rattle.tags.specs.Tags.{taggedOf}
+use Rattle.tags.specs.declared.Kind.the-variants.{Sectors}
+use Rattle.tags.specs.declared.Range.the-variants.{Full}
+use Rattle.tags.specs.declared.Tags.{Tags}
+use Rattle.wire.specs.Blocks.{blockOf, carried as payloadOf}
+use Rattle.wire.specs.Frames.{crc7Of, sealed, commandFrame, sentOf, framingOf, frameOf}
+use Rattle.wire.specs.declared.Frame.the-variants.{Command}
+use Rattle.stored.specs.Changes.{SetBy, GrantedWrite, Cause, written, erased as by-tag, forced, MapCause, set}
+use Rattle.stored.specs.Locked.{UnlockGranted, Unlocking, none-stored, unlocked}
+use Rattle.stored.specs.Locked.{forced as by-force}
+use Rattle.stored.proofs.Protected.{opposite}
+
+module _ (card : Card) (input : List ℕ) (memory : ℕ) (map : List ℕ) where
+  -- a byte changes at a frame or at a block in, and at no other call
+  no-cause : (call : Call) (sector : ℕ) → (call ≡ BlockIn → ⊥) → (call ≡ Frame → ⊥) → Cause card call input memory map sector → ⊥
+  no-cause call sector b f (written at w e) = b (w .called)
+  no-cause call sector b f (by-tag t) = f (t .called)
+  no-cause call sector b f (forced g) = b (g .called)
+
+  power-erases : (sector : ℕ) → Cause card PowerOn input memory map sector → ⊥
+  power-erases sector =
+      no-cause PowerOn sector (λ c. let z : _≡_ {A = ℕ} 0 1 = cc in omega arith) (λ c. let z : _≡_ {A = ℕ} 0 1 = cc in omega arith)
+
+  work-erases : (sector : ℕ) → Cause card WorkDone input memory map sector → ⊥
+  work-erases sector =
+      no-cause WorkDone sector (λ c. let z : _≡_ {A = ℕ} 0 1 = cc in omega arith) (λ c. let z : _≡_ {A = ℕ} 0 1 = cc in omega arith)
+
+  out-erases : (sector : ℕ) → Cause card BlockOut input memory map sector → ⊥
+  out-erases sector =
+      no-cause BlockOut sector (λ c. let z : _≡_ {A = ℕ} 0 1 = cc in omega arith) (λ c. let z : _≡_ {A = ℕ} 0 1 = cc in omega arith)
+
+  spared-erased : (sector : ℕ) → protectedIn map (csdProtects (card .registers .csd)) sector ≡ true → Cause card Frame input memory map sector → ⊥
+  spared-erased sector p (written at w e) = let c = w .called in let z : _≡_ {A = ℕ} 0 1 = cc in omega arith
+  spared-erased sector p (by-tag t) = opposite (protectedIn map (csdProtects (card .registers .csd)) sector) p (t .unprotected)
+  spared-erased sector p (forced f) = let c = f .called in let z : _≡_ {A = ℕ} 0 1 = cc in omega arith
+
+  untagged-erased : (sector : ℕ) → taggedOf (card .link .tags) sector ≡ false → Cause card Frame input memory map sector → ⊥
+  untagged-erased sector u (written at w e) = let c = w .called in let z : _≡_ {A = ℕ} 0 1 = cc in omega arith
+  untagged-erased sector u (by-tag t) = opposite (taggedOf (card .link .tags) sector) (t .tagged) u
+  untagged-erased sector u (forced f) = let c = f .called in let z : _≡_ {A = ℕ} 0 1 = cc in omega arith
+
+  status-erases : (sector argument : ℕ) → frameOf input ≡ Command 13 argument → Cause card Frame input memory map sector → ⊥
+  status-erases sector argument r (written at w e) = let c = w .called in let z : _≡_ {A = ℕ} 0 1 = cc in omega arith
+  status-erases sector argument r (by-tag t) = let z : _≡_ {A = ℕ} 13 38 = cc (sym r ∙ t .command) in omega arith
+  status-erases sector argument r (forced f) = let c = f .called in let z : _≡_ {A = ℕ} 0 1 = cc in omega arith
+
+  refused-stores : (at : ℕ) (refusal : Refusal) → blockJudged card input memory map .stepped .reply .outcome ≡ Refused refusal
+      → GrantedWrite card BlockIn input memory map at → ⊥
+  refused-stores at refusal r w = let g = w .granted 0 in let z : _≡_ {A = ℕ} 0 1 = cc in omega arith
+
+  power-clears : (group : ℕ) → MapCause card PowerOn input memory map group → ⊥
+  power-clears group (set s) = let c = s .called in let z : _≡_ {A = ℕ} 0 1 = cc in omega arith
+  power-clears group (forced f) = let c = f .called in let z : _≡_ {A = ℕ} 0 1 = cc in omega arith
+
+  -- the index of a frame that sets or clears a group
+  neither : (index argument other group : ℕ) → (index ≡ 28 → ⊥) → (index ≡ 29 → ⊥) → frameOf input ≡ Command index argument
+      → SetBy card Frame input memory map 28 true other group ⊎ SetBy card Frame input memory map 29 false other group → ⊥
+  neither index argument other group a b r (inl c) = let e = sym r ∙ c .0 in a (cc)
+  neither index argument other group a b r (inr c) = let e = sym r ∙ c .0 in b (cc)
+
+  status-protects : (group argument : ℕ) → frameOf input ≡ Command 13 argument → MapCause card Frame input memory map group → ⊥
+  status-protects group argument r (set s) =
+      neither 13 argument (s .argument) group (λ e. omega arith) (λ e. omega arith) r (s .taken)
+  status-protects group argument r (forced f) = let c = f .called in let z : _≡_ {A = ℕ} 0 1 = cc in omega arith
+
+  set-or-not : (other group argument : ℕ) → frameOf input ≡ Command 28 argument → frameJudged card input memory map .change ≡ Protect group false
+      → SetBy card Frame input memory map 28 true other group ⊎ SetBy card Frame input memory map 29 false other group → ⊥
+  set-or-not other group argument r p (inl c) = let e = sym p ∙ c .1 in let z : _≡_ {A = ℕ} 0 1 = cc in omega arith
+  set-or-not other group argument r p (inr c) = let e = sym r ∙ c .0 in let z : _≡_ {A = ℕ} 28 29 = cc in omega arith
+
+  set-clears : (group argument : ℕ) → frameOf input ≡ Command 28 argument → frameJudged card input memory map .change ≡ Protect group false
+      → MapCause card Frame input memory map group → ⊥
+  set-clears group argument r p (set s) = set-or-not (s .argument) group argument r p (s .taken)
+  set-clears group argument r p (forced f) = let c = f .called in let z : _≡_ {A = ℕ} 0 1 = cc in omega arith
+
+  frame-unlocks : Unlocking card Frame input memory map → ⊥
+  frame-unlocks (none-stored c n) = let z : _≡_ {A = ℕ} 0 1 = cc in omega arith
+  frame-unlocks (by-force f) = let c = f .called in let z : _≡_ {A = ℕ} 0 1 = cc in omega arith
+  frame-unlocks (unlocked u) = let c = u .called in let z : _≡_ {A = ℕ} 0 1 = cc in omega arith
+
+  prefix-unlocks : (call : Call) → (length (passwordIn (payloadOf input)) ≡ length (stored (card .lock)) → ⊥) → UnlockGranted card call input memory map → ⊥
+  prefix-unlocks call ne u = ne (ap length (u .password))
+
+  set-unlocks : (call : Call) → getD (payloadOf input) 0 0 ≡ 1 → UnlockGranted card call input memory map → ⊥
+  set-unlocks call s u = omega (arith, s, u .unlock)
+
+  password-kept : length (stored (card .lock)) ≡ 1 → Unlocking card PowerOn input memory map → ⊥
+  password-kept l (none-stored c n) = omega arith
+  password-kept l (by-force f) = let c = f .called in let z : _≡_ {A = ℕ} 0 1 = cc in omega arith
+  password-kept l (unlocked u) = let c = u .called in let z : _≡_ {A = ℕ} 0 1 = cc in omega arith
+
+-- ---- samples: a card of 8,192 bytes
+abbrev sample : State → ℕ → Lock → Tags → Card
+sample state length lock tags =
+    record {
+      registers = record { cid = replicate 16 0; csd = replicate 16 0; ocr = 0x00FF8000; groups = 1 };
+      lock = lock;
+      link = record { state = state; address = 1; length = length; errors = noErrors; tags = tags };
+    }
+
+write-happens : getD (memoryOf (sample (Rcv (One 512)) 512 noPassword noTags) BlockIn (blockOf (replicate 512 7)) (replicate 8192 0xFF) (0 ∷ [])) 512 0 ≡ 7
+unfolding blockJudged awaitedJudged writeJudged blockGood keptOf sectorWritten blockOf crc16 checkSum remainder divide bits holding entriesRight
+write-happens = refl
+
+erase-happens : getD (memoryOf (sample Tran 512 noPassword (tagsOf (Full Sectors 1 1))) Frame (commandFrame 38 0) (replicate 8192 0) (0 ∷ [])) 512 0 ≡ 0xFF
+unfolding frameJudged commandOf rowOf transferRow moveOf takenOf judgedOf taggingOf concluded answered changeOf holding entriesRight erased erasedTo sectorErased erasedSector sectorWritten commandFrame sealed crc7Of remainder divide bits framingOf sentOf
+erase-happens = refl
+
+force-happens : getD (memoryOf (sample (Rcv LockRequest) 1 (holding (7 ∷ []) true) noTags) BlockIn (blockOf (8 ∷ [])) (replicate 8192 0) (1 ∷ [])) 512 0 ≡ 0xFF
+unfolding blockJudged awaitedJudged requestJudged requestOf blockGood blockOf crc16 checkSum remainder divide bits holding entriesRight
+force-happens = refl
+
+clear-happens : mapOf (sample (Rcv LockRequest) 1 (holding (7 ∷ []) true) noTags) BlockIn (blockOf (8 ∷ [])) 8192 (1 ∷ []) ≡ 0 ∷ []
+unfolding blockJudged awaitedJudged requestJudged requestOf blockGood blockOf crc16 checkSum remainder divide bits holding entriesRight
+clear-happens = refl
+
+protect-happens : mapOf (sample Tran 512 noPassword noTags) Frame (commandFrame 28 0) 8192 (0 ∷ []) ≡ 1 ∷ []
+unfolding frameJudged commandOf rowOf transferRow moveOf takenOf judgedOf taggingOf argumentFault concluded answered changeOf holding entriesRight commandFrame sealed crc7Of remainder divide bits framingOf sentOf
+protect-happens = refl
+
+free-happens : mapOf (sample Tran 512 noPassword noTags) Frame (commandFrame 29 0) 8192 (1 ∷ []) ≡ 0 ∷ []
+unfolding frameJudged commandOf rowOf transferRow moveOf takenOf judgedOf taggingOf argumentFault concluded answered changeOf holding entriesRight commandFrame sealed crc7Of remainder divide bits framingOf sentOf
+free-happens = refl
+
+unlock-happens : stepOf (sample (Rcv LockRequest) 3 (holding (7 ∷ []) true) noTags) BlockIn (blockOf (0 ∷ 1 ∷ 7 ∷ [])) 8192 (0 ∷ []) 0 .card .lock .locked ≡ false
+unfolding blockJudged awaitedJudged requestJudged requestOf presented passwordIn stored same blockGood blockOf crc16 checkSum remainder divide bits holding entriesRight
+unlock-happens = refl
