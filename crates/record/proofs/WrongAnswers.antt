@@ -6,6 +6,8 @@
 --   csd-lowest-first       one read lowest byte first
 --   length-zero            a block length of 0 read as 0
 --   length-over            one of 2,049 read as it is
+--   crosses-at-end         a block that ends with its read block taken to cross it
+--   crosses-unseen         one that goes on by a byte taken not to
 --   fresh-unaddressed, fresh-longest    a reset to the address 0, one to the longest block
 --   powered-keeps-address, powered-keeps-tags    power-on that keeps the address, or the tags
 --   powered-unlocked       power-on that leaves a card with a password unlocked
@@ -42,7 +44,7 @@ use Rattle.wire.specs.Frames.{crc7Of}
 use Rattle.wire.specs.Responses.{lastByte, registerRight}
 use Rattle.record.specs.Making.{refusedMake, passwordMade, madeOf}
 use Rattle.record.specs.Power.{freshLink, poweredOn, worked}
-use Rattle.record.specs.Record.{sizeOf, csdProtects, lengthRead}
+use Rattle.record.specs.Record.{sizeOf, csdProtects, lengthRead, crosses}
 use Rattle.record.specs.declared.Card.{Card}
 use Rattle.record.specs.declared.Made.{Made}
 use Rattle.record.specs.declared.Making.the-variants.{Done, Refused}
@@ -82,6 +84,12 @@ csd-permanent-alone e = apart e
 
 csd-lowest-first : csdProtects (set zeros 1 0x20) ≡ true → ⊥
 csd-lowest-first e = let z : _≡_ {A = ℕ} 0 1 = cc in omega arith
+
+crosses-at-end : crosses 1536 512 ≡ true → ⊥
+crosses-at-end e = let z : _≡_ {A = ℕ} 0 1 = cc in omega arith
+
+crosses-unseen : crosses 1537 512 ≡ false → ⊥
+crosses-unseen e = apart e
 
 length-zero : lengthRead 0 ≡ 0 → ⊥
 length-zero e = omega arith
