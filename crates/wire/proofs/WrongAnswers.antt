@@ -1,36 +1,56 @@
 -- Wrong answers that the promises rule out, each refuted at a sample that antt computes: a call's answer is the definition, so a call
 -- that gave the wrong answer would make the two equal. (Others are tried as must-fail edits; docs/PROMISES.md lists both.)
+--   crc7-of-four          a frame whose CRC7 is taken over its first four bytes
+--   command-index-64      a command with an index of 7 bits
 --   r1-as-a-command       an R1 with the transmission bit of a command
 --   r1-index-64           an R1 with an index of 7 bits
+--   r2-in-16-bytes        an R2 written into 16 bytes
 --   r3-bit-31-clear       an R3 that shows the OCR as it is
 --   r3-with-a-crc         an R3 closed by its CRC7
 --   last-without-end-bit  a register closed by its CRC7 and a 0
 --   last-unmoved          a register closed by a 1 and its CRC7
 --   every-register        a check that takes every register for right
+--   register-of-14        a register whose CRC7 is taken over its first 14 bytes
+--   payload-2049          a block of 2,049 bytes written
+--   sum-of-the-block      a check whose CRC16 is taken over the CRC16 too
 --   every-block           a check that takes every block of a good length
 --   length-of-the-block   a check that tells the length of the block and not of its payload
 -- Assumes nothing.
 use mathlib.Core.Path.{_≡_, ap}
-use mathlib.Core.Bool.{true}
+use mathlib.Core.Bool.{true, false}
 use mathlib.Core.List.{List, [], _∷_, _++_}
 use Prim.Native.Nat.{ℕ, _+_, _*_}
 use native.Mathlib.Omega.{arith}
 use lib.ListN.{getD, replicate}
+use Rattle.base.specs.Output.{fits}
+use Rattle.base.specs.Refusals.{by}
 use Rattle.base.specs.declared.Written.the-variants.{Bytes}
 use Rattle.crc.specs.Bits.{bitsOf, bits, octets}
 use Rattle.crc.specs.Crc.{divide, remainder, checkSum, crc7, crc16}
-use Rattle.wire.specs.Blocks.{checkedOf}
-use Rattle.wire.specs.Frames.{crc7Of, sealed, commandFrame, indexed}
-use Rattle.wire.specs.Responses.{r1Frame, r3Frame, lastByte, registerRight}
-use Rattle.wire.specs.declared.Checked.the-variants.{Payload}
+use Rattle.wire.specs.Blocks.{blockWritten, checkedOf}
+use Rattle.wire.specs.Frames.{crc7Of, sealed, commandFrame, indexed, sentOf, framingOf}
+use Rattle.wire.specs.Responses.{r1Frame, r2Frame, r3Frame, lastByte, registerRight}
+use Rattle.wire.specs.declared.Checked.the-variants.{Payload, Refused}
+use Rattle.wire.specs.declared.Framing.the-variants.{Framed}
 use Rattle.wire.specs.declared.R1.{R1}
+use Rattle.wire.specs.declared.R2.{R2}
 use Rattle.wire.specs.declared.R3.{R3}
 
 abbrev a1 : R1
 a1 = record { index = 16; status = 0x00000900 }
 
+abbrev a2 : R2
+a2 = record { register = replicate 16 0 }
+
 abbrev a3 : R3
 a3 = record { ocr = 0x00FF8000 }
+
+crc7-of-four : framingOf (0x40 ∷ 0x00 ∷ 0x00 ∷ 0x00 ∷ 0x00 ∷ 0x95 ∷ []) ≡ Framed 0 0 false → ⊥
+unfolding framingOf sentOf crc7Of remainder divide bits
+crc7-of-four e = let z : _≡_ {A = ℕ} 0 1 = cc in omega arith
+
+command-index-64 : indexed 64 (commandFrame 64 0) (replicate 6 0) ≡ Bytes 6 → ⊥
+command-index-64 e = let z : _≡_ {A = ℕ} 0 1 = cc in omega arith
 
 r1-as-a-command : r1Frame a1 ≡ commandFrame 16 0x00000900 → ⊥
 unfolding r1Frame commandFrame sealed crc7Of remainder divide
@@ -38,6 +58,10 @@ r1-as-a-command e = let z : _≡_ {A = ℕ} 0x10 0x50 = ap (λ (l : List ℕ). g
 
 r1-index-64 : indexed 64 (r1Frame a1) (replicate 6 0) ≡ Bytes 6 → ⊥
 r1-index-64 e = let z : _≡_ {A = ℕ} 0 1 = cc in omega arith
+
+r2-in-16-bytes : fits (r2Frame a2) (replicate 16 0) ≡ Bytes 17 → ⊥
+unfolding r2Frame
+r2-in-16-bytes e = let z : _≡_ {A = ℕ} 0 1 = cc in omega arith
 
 r3-bit-31-clear : r3Frame a3 ≡ 0x3F ∷ octets 4 (bitsOf 32 0x00FF8000) ++ (0xFF ∷ []) → ⊥
 unfolding r3Frame
@@ -58,6 +82,18 @@ last-unmoved e = omega (arith, e)
 every-register : registerRight (replicate 16 0) ≡ true → ⊥
 unfolding registerRight lastByte crc7Of remainder divide bits
 every-register e = let z : _≡_ {A = ℕ} 0 1 = cc in omega arith
+
+register-of-14 : registerRight (replicate 14 0 ++ (1 ∷ 1 ∷ [])) ≡ true → ⊥
+unfolding registerRight lastByte crc7Of remainder divide bits
+register-of-14 e = let z : _≡_ {A = ℕ} 0 1 = cc in omega arith
+
+payload-2049 : blockWritten (replicate 2049 0) (replicate 2051 0) ≡ Bytes 2051 → ⊥
+unfolding blockWritten
+payload-2049 e = let z : _≡_ {A = ℕ} 0 1 = cc in omega arith
+
+sum-of-the-block : checkedOf (0x80 ∷ 0x91 ∷ 0x88 ∷ []) ≡ Refused (by 17) → ⊥
+unfolding checkedOf crc16 checkSum remainder divide bits
+sum-of-the-block e = let z : _≡_ {A = ℕ} 0 1 = cc in omega arith
 
 every-block : checkedOf (0x80 ∷ 0x91 ∷ 0x89 ∷ []) ≡ Payload 1 → ⊥
 unfolding checkedOf crc16 checkSum remainder divide bits

@@ -1,0 +1,176 @@
+//! Everything that a card can reach in scripts, as points with names; `cover` counts them.
+
+use std::collections::BTreeSet;
+
+pub const STATES: [&str; 10] = ["idle", "ready", "ident", "stby", "tran", "data", "rcv", "prg", "dis", "ina"];
+
+/// The commands that only an unlocked card carries out.
+pub const LOCKABLE: [u8; 13] = [16, 17, 18, 24, 25, 28, 29, 30, 32, 33, 35, 36, 38];
+
+/// The commands that one card answers to and another does not.
+pub const ADDRESSED: [u8; 5] = [7, 9, 10, 13, 15];
+
+/// Which bits a command's own R1 can show that were not pending before it.
+const BITS_SET: [(u8, &[u32]); 15] = [
+    (3, &[31]),
+    (16, &[29, 13]),
+    (17, &[31, 30, 13]),
+    (18, &[31, 30, 13]),
+    (24, &[31, 30, 29, 13]),
+    (25, &[31, 30, 29, 13]),
+    (28, &[31, 13]),
+    (29, &[31, 13]),
+    (30, &[31, 13]),
+    (32, &[31]),
+    (33, &[31, 28, 27]),
+    (35, &[31]),
+    (36, &[31, 28, 27]),
+    (38, &[28]),
+    (42, &[13]),
+];
+
+/// The table of legal moves: command, state on reception, states after.
+const MOVES: [(u8, &[usize], &[usize]); 25] = [
+    (0, &[0, 1, 2, 3, 4, 5, 6, 7, 8], &[0]),
+    (1, &[0], &[0, 1, 9]),
+    (2, &[1], &[2]),
+    (3, &[2], &[2, 3]),
+    (7, &[3], &[3, 4]),
+    (7, &[4, 5], &[3]),
+    (7, &[7], &[7, 8]),
+    (7, &[8], &[7, 8]),
+    (7, &[6], &[6]),
+    (9, &[3], &[3]),
+    (10, &[3], &[3]),
+    (12, &[5], &[4]),
+    (12, &[6], &[7]),
+    (15, &[3, 4, 5, 6, 7, 8], &[9]),
+    (16, &[4], &[4]),
+    (17, &[4], &[4, 5]),
+    (18, &[4], &[4, 5]),
+    (30, &[4], &[4, 5]),
+    (24, &[4], &[4, 6]),
+    (25, &[4], &[4, 6]),
+    (42, &[4], &[6]),
+    (28, &[4], &[4, 7]),
+    (29, &[4], &[4, 7]),
+    (38, &[4], &[4, 7]),
+    (13, &[3, 4, 5, 6, 7, 8], &[]),
+];
+
+pub fn expected() -> BTreeSet<String> {
+    let mut points = BTreeSet::new();
+    for state in STATES {
+        points.extend((0..64).map(|index| format!("pair {state} CMD{index}")));
+        // A locked card sends no data, so it is never in data.
+        points.extend((0..64).filter(|_| state != "data").map(|index| format!("locked {state} CMD{index}")));
+        for whose in ["own", "other"] {
+            points.extend(ADDRESSED.map(|index| format!("addressed {state} CMD{index} {whose}")));
+        }
+        points.extend([12, 1, 2, 3].map(|refusal| format!("refusal frame {refusal} in {state}")));
+        points.extend(["block_in", "block_out"].map(|call| format!("refusal {call} 12 in {state}")));
+        points.extend(["power-on", "work-done"].map(|call| format!("call {call} in {state}")));
+    }
+    for state in STATES {
+        points.extend((state != "rcv").then(|| format!("refusal block_in 15 in {state}")));
+        points.extend((state != "data").then(|| format!("refusal block_out 15 in {state}")));
+    }
+    for (index, bits) in BITS_SET {
+        points.extend(bits.iter().map(|bit| format!("set-by CMD{index} bit {bit}")));
+    }
+    points.extend(LOCKABLE.map(|index| format!("set-by CMD{index} bit 24")));
+    points.extend([31, 30, 29, 28, 27, 26, 25, 24, 23, 22, 15, 13].map(|bit| format!("r1 bit {bit}")));
+    points.extend([2, 3, 4, 5, 6, 7, 8].map(|state| format!("r1 state {}", STATES[state])));
+    for (index, from, to) in MOVES {
+        for before in from {
+            let ends = if to.is_empty() { std::slice::from_ref(before) } else { to };
+            let from = STATES[*before];
+            points.extend(ends.iter().map(|after| format!("move CMD{index} {from} to {}", STATES[*after])));
+        }
+    }
+    points.extend(NAMED.trim().lines().map(|point| point.trim().to_string()));
+    points.extend(lock_requests());
+    points
+}
+
+fn lock_requests() -> Vec<String> {
+    let mut points = Vec::new();
+    for request in ["0", "1", "2", "4", "5", "8", "other"] {
+        for locked in ["locked", "unlocked"] {
+            points.push(format!("lock {request} {locked} refused 20"));
+            if request != "other" && (locked == "locked") == matches!(request, "0" | "8") {
+                points.push(format!("lock {request} {locked} taken"));
+            }
+        }
+    }
+    points
+}
+
+/// The points that no rule lists.
+const NAMED: &str = "
+    refusal make 7
+    refusal make 8
+    refusal make 9 CID
+    refusal make 9 CSD
+    refusal make 10
+    refusal make 11
+    refusal block_in one 16
+    refusal block_in one 17
+    refusal block_in one 19
+    refusal block_in many 16
+    refusal block_in many 17
+    refusal block_in many 18
+    refusal block_in many 19
+    refusal block_in lock 16
+    refusal block_in lock 17
+    refusal block_in lock 20
+    refusal block_out one 6
+    refusal block_out many 6
+    refusal block_out many 18
+    refusal block_out many 21
+    refusal block_out protection 6
+    refusal write_frame 4
+    refusal write_frame 6
+    refusal write_block 5
+    refusal write_block 6
+    refusal check_block 5
+    refusal check_block 17
+    answer block_in one
+    answer block_in many
+    answer block_in lock
+    answer block_out one
+    answer block_out many
+    answer block_out protection
+    answer write_frame
+    answer write_block
+    answer check_block
+    stop at the end
+    stop bad kind
+    stop cut
+    stop no card
+    stop too big
+    erase by sector, all filled
+    erase by sector, all spared
+    erase by group, all filled
+    erase by group, all spared
+    erase by group, some spared
+    stopped block_in one
+    stopped block_in many
+    stopped block_in lock
+    stopped block_out one
+    stopped block_out many
+    stopped block_out protection
+    flag CMD0 keeps locked
+    flag CMD0 keeps unlocked with a password
+    flag power-on locks
+    flag bit 13 left by CMD15
+    flag bit 13 left by CMD7
+    password prefix refused
+    password one byte more refused
+    password of the same length refused
+    password set of 16 bytes
+    password set of 17 bytes refused
+    password block without byte 1 refused
+    password block shorter than its length refused
+    password forced erase with byte 1 past the block
+    password forced erase refused by CSD";
