@@ -1,0 +1,30 @@
+// The socket (document 01, "How a card takes a frame"): "the card record stays in its place and is
+// altered there". One thin call, which is the step of crates/card.
+//
+// Offers: `socket`.
+use card::Call;
+use card::Reply;
+use record::Card;
+ghost use mathlib.Core.Path.{_≡_};
+ghost use lib.ListN.{length};
+ghost use Rattle.card.specs.Step.{stepOf, memoryOf, mapOf, outputOf};
+
+// One call on a card in its place.
+pub fn socket(
+    card: &mut Card,
+    call: Call,
+    input: &[u8],
+    memory: &mut [u8],
+    map: &mut [u8],
+    out: &mut [u8],
+) -> Reply
+    ensures answer { λ r. ⌜ r ≡ stepOf (now (card .entry)) call (now (input .entry)) (length (now (memory .entry))) (now (map .entry)) (length (now (out .entry))) .reply ⌝ }
+    ensures record { λ _. ⌜ now (card .exit) ≡ stepOf (now (card .entry)) call (now (input .entry)) (length (now (memory .entry))) (now (map .entry)) (length (now (out .entry))) .card ⌝ }
+    ensures memory { λ _. ⌜ now (memory .exit) ≡ memoryOf (now (card .entry)) call (now (input .entry)) (now (memory .entry)) (now (map .entry)) ⌝ }
+    ensures map { λ _. ⌜ now (map .exit) ≡ mapOf (now (card .entry)) call (now (input .entry)) (length (now (memory .entry))) (now (map .entry)) ⌝ }
+    ensures output { λ _. ⌜ now (out .exit) ≡ outputOf (now (card .entry)) call (now (memory .entry)) (now (map .entry)) (now (out .entry)) ⌝ }
+{
+    let stepped = card::step(*card, call, input, memory, map, out);
+    *card = stepped.card;
+    stepped.reply
+}
