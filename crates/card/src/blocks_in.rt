@@ -1,5 +1,5 @@
-// A block in: 12, 15, 16, 17, 18, 19 or 20. Judging gives the payload of a write as an array beside
-// its answer; storing takes that array.
+// A block in: 12, 15, 16, 17, 18, 19 or 20. The payload of a write goes to storing as an array of
+// 512 bytes.
 use crate::BlockJudged;
 use crate::Stepped;
 use crate::Storing;

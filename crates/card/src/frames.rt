@@ -13,7 +13,7 @@ use status::ErrorBit;
 use wire::Framing;
 ghost use mathlib.Core.Path.{_≡_};
 ghost use lib.ListN.{length};
-ghost use Rattle.card.specs.Frame.{frameRefused, commanded, framed, frameJudged, sparedTold, frameOf, erasedBy, protectedBy, metAlone};
+ghost use Rattle.card.specs.Frame.{frameRefused, commanded, frameJudged, sparedTold, frameOf, erasedBy, protectedBy, metAlone};
 ghost use Rattle.command.specs.Command.{damagedLink, commandOf};
 ghost use Rattle.record.specs.Record.{withLink};
 

@@ -4,7 +4,7 @@
 // and then changes what is lent. No call has a `requires`.
 //
 // Offers: `Outcome`, `Reply`, `Stepped`; `frame`, `block_in`, `block_out`; `Call`, `step`;
-// `write_sent`.
+// `write_sent`. The other types are what judging gives: the definitions name them.
 mod blocks_in;
 mod blocks_out;
 mod frames;

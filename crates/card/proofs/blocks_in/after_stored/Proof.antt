@@ -1,33 +1,16 @@
+-- `card::blocks_in::after_stored` meets its contract: a write of many goes on at the address behind the block, and every other block leads to prg.
+-- Assumes nothing.
 use borrow.Author.Needs.{needs}
 use Rattle.card.proofs.blocks_in.after_stored.Statement.{statement}
 use Rattle.card.proofs.blocks_in.after_stored.Tie as tie
-use Rattle.card.proofs.blocks_in.after_stored.Reads as reads
-use Rattle.card.proofs.blocks_in.after_stored.Lts as lts
-
--- src/blocks_in.rt:48:29
-enum-told : tie.Need-enum-told
-enum-told c = search needs
-
--- src/blocks_in.rt:49:41
-enum-told-2 : tie.Need-enum-told-2
-enum-told-2 c = search needs
-
--- src/blocks_in.rt:50:34
-enum-told-3 : tie.Need-enum-told-3
-enum-told-3 c = search needs
-
--- src/blocks_in.rt:44:1
-returns : tie.Need-returns
-returns c = search needs
-
--- src/blocks_in.rt:44:1
-returns-2 : tie.Need-returns-2
-returns-2 c = simp (c .enum-told2 .given .1)
-
--- src/blocks_in.rt:44:1
-returns-3 : tie.Need-returns-3
-returns-3 c = search needs
 
 pub after-stored-spec : {M : Type 1} → statement M
 after-stored-spec =
-    tie.close (tie.spec enum-told enum-told-2 enum-told-3 returns returns-2 returns-3)
+    tie.close
+    (tie.spec
+    (λ c. search needs)
+    (λ c. search needs)
+    (λ c. search needs)
+    (λ c. search needs)
+    (λ c. simp (c .enum-told2 .given .1))
+    (λ c. search needs))

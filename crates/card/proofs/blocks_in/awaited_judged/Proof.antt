@@ -1,42 +1,29 @@
-use native.Mathlib.Nat.{sub-zero}
-use Prim.Native.Nat.{_-_}
-use borrow.Author.Tests.{le-leb}
-use lib.Dec.{eqb}
-use lib.ListN.{take}
-use Rattle.base.proofs.Cases.{passed}
+-- `card::blocks_in::awaited_judged` meets its contract: 16 by the length; a block of the awaited length is refused by 17 alone, where it is refused.
+-- Assumes nothing.
+use mathlib.Core.Path.{_≡_, sym, ap, _∙_}
+use mathlib.Core.Bool.{true, false}
+use mathlib.Core.List.{List}
+use Prim.Native.Nat.{ℕ, _+_, _-_, _≤_}
+use native.Mathlib.Omega.{arith}
+use borrow.Author.Needs.{needs}
+use borrow.Author.Tests.{le-leb, leb-true, eq-eqb, ne-eqb}
+use denote.Ref.{now}
+use lib.Dec.{eqb, leb}
+use lib.ListN.{length, take}
+use Rattle.base.proofs.Cases.{passed, cases}
 use Rattle.base.specs.Refusals.{by}
 use Rattle.base.specs.declared.Refusal.{Refusal}
-use Rattle.card.specs.BlockIn.{carriedOut}
 use Rattle.crc.specs.Crc.{crc16}
-use Rattle.wire.specs.Blocks.{longest, told, carried, checkedOf}
-use Rattle.wire.specs.declared.Checked.{Checked}
-use Rattle.wire.specs.declared.Checked.the-variants.{Payload, Refused}
-use mathlib.Core.Path.{_≡_, ap, sym, _∙_}
-use mathlib.Core.Bool.{Bool, true, false}
-use mathlib.Core.List.{List}
-use Prim.Native.Nat.{ℕ, _+_, _≤_}
-use native.Mathlib.Omega.{arith}
-use borrow.Author.Tests.{leb-true}
-use denote.Ref.{now}
-use lib.Dec.{leb}
-use lib.ListN.{length}
-use Rattle.base.proofs.Cases.{cases}
-use Rattle.card.specs.BlockIn.{awaitedLength}
 use Rattle.record.specs.Record.{lengthRead}
 use Rattle.record.specs.declared.Card.{Card}
 use Rattle.states.specs.declared.Incoming.{Incoming}
 use Rattle.states.specs.declared.Incoming.the-variants.{One, Many, LockRequest}
-use borrow.Author.Tests.{eq-eqb, ne-eqb}
-use Rattle.card.specs.BlockIn.{awaitedJudged}
-use borrow.Author.Needs.{needs}
+use Rattle.wire.specs.Blocks.{longest, told, carried, checkedOf}
+use Rattle.wire.specs.declared.Checked.{Checked}
+use Rattle.wire.specs.declared.Checked.the-variants.{Payload, Refused}
+use Rattle.card.specs.BlockIn.{carriedOut, awaitedLength, awaitedJudged}
 use Rattle.card.proofs.blocks_in.awaited_judged.Statement.{statement}
 use Rattle.card.proofs.blocks_in.awaited_judged.Tie as tie
-use Rattle.card.proofs.blocks_in.awaited_judged.Reads as reads
-use Rattle.card.proofs.blocks_in.awaited_judged.Lts as lts
-use Rattle.card.proofs.blocks_in.awaited_length.Reads as awaited-length-reads
-use Rattle.card.proofs.blocks_in.block_refused.Reads as block-refused-reads
-use Rattle.card.proofs.blocks_in.carried_out.Reads as carried-out-reads
-use Rattle.wire.proofs.check_block.Reads as check-block-reads
 
 no-refusal : (r : Refusal) (n : ℕ) → _≡_ {A = Checked} (Refused r) (Payload n) → ⊥
 no-refusal r n e = let z : _≡_ {A = ℕ} 0 1 = cc in omega arith
@@ -77,62 +64,21 @@ short card (One at) = (omega arith, omega arith)
 short card (Many at) = (omega arith, omega arith)
 short card LockRequest = read (card .link .length)
 
--- src/blocks_in.rt:167:9
-awaited-length-requires : tie.Need-awaited-length-requires
-awaited-length-requires c κs = search needs
-
--- src/blocks_in.rt:168:23
 add-if1 : tie.Need-add-if1
 add-if1 c =
     let a = c .before .before .before .args in
     omega (arith, c .awaited-length .ensures, short (a .card) (a .incoming))
 
--- src/blocks_in.rt:169:9
-block-refused-requires : tie.Need-block-refused-requires
-block-refused-requires c κs = search needs
-
--- src/blocks_in.rt:169:9
 returns : tie.Need-returns
 unfolding awaitedJudged
 returns c =
     let l = c .before .before in
     let a = l .before .before .before .args in
-    let wrong : length (now (a .block)) ≡ awaitedLength (a .card) (a .incoming) + 2 → ⊥ = λ e. c .before .if1 .taken (e ∙ ap (λ (n : ℕ). n + 2) (sym (l .awaited-length .ensures))) in
+    let wrong : length (now (a .block)) ≡ awaitedLength (a .card) (a .incoming) + 2 → ⊥ =
+    λ e. c .before .if1 .taken (e ∙ ap (λ (n : ℕ). n + 2) (sym (l .awaited-length .ensures)))
+    in
     simp (c .block-refused .ensures, ne-eqb _ _ wrong)
 
--- src/blocks_in.rt:176:9
-check-block-requires : tie.Need-check-block-requires
-check-block-requires c κs = search needs
-
--- src/blocks_in.rt:178:60
-enum-told : tie.Need-enum-told
-enum-told c = search needs
-
--- src/blocks_in.rt:178:60
-sub-carried-out : tie.Need-sub-carried-out
-sub-carried-out c = search needs
-
--- src/blocks_in.rt:178:60
-part-carried-out-start : tie.Need-part-carried-out-start
-part-carried-out-start c = search needs
-
--- src/blocks_in.rt:178:60
-part-carried-out-end : tie.Need-part-carried-out-end
-part-carried-out-end c = search needs
-
--- src/blocks_in.rt:178:32
-carried-out-requires : tie.Need-carried-out-requires
-carried-out-requires c κs = search needs
-
--- src/blocks_in.rt:179:62
-enum-told-2 : tie.Need-enum-told-2
-enum-told-2 c = search needs
-
--- src/blocks_in.rt:179:32
-block-refused-requires-2 : tie.Need-block-refused-requires-2
-block-refused-requires-2 c κs = search needs
-
--- src/blocks_in.rt:164:1
 returns-2 : tie.Need-returns-2
 unfolding awaitedJudged
 returns-2 c =
@@ -145,7 +91,6 @@ returns-2 c =
     simp (eq-eqb _ _ e, crc-right b (sym (k .check-block .ensures) ∙ c .before .before .enum-told .given .1))
     (c .carried-out .ensures ∙ ap (λ (m : ℕ). carriedOut (a .card) (a .incoming) (take m b) (now (a .map))) (payload n (length b) (k .before .if1 .left)))
 
--- src/blocks_in.rt:164:1
 returns-3 : tie.Need-returns-3
 unfolding awaitedJudged
 returns-3 c =
@@ -161,17 +106,17 @@ pub awaited-judged-spec : {M : Type 1} → statement M
 awaited-judged-spec =
     tie.close
     (tie.spec
-    awaited-length-requires
+    (λ c κs. search needs)
     add-if1
-    block-refused-requires
+    (λ c κs. search needs)
     returns
-    check-block-requires
-    enum-told
-    sub-carried-out
-    part-carried-out-start
-    part-carried-out-end
-    carried-out-requires
-    enum-told-2
-    block-refused-requires-2
+    (λ c κs. search needs)
+    (λ c. search needs)
+    (λ c. search needs)
+    (λ c. search needs)
+    (λ c. search needs)
+    (λ c κs. search needs)
+    (λ c. search needs)
+    (λ c κs. search needs)
     returns-2
     returns-3)

@@ -1,19 +1,17 @@
-use Rattle.card.specs.BlockIn.{blockGood}
+-- `card::blocks_in::block_good` meets its contract: the state is the one given, and all else is as it was.
+-- Assumes nothing.
 use borrow.Author.Needs.{needs}
+use Rattle.card.specs.BlockIn.{blockGood}
 use Rattle.card.proofs.blocks_in.block_good.Statement.{statement}
 use Rattle.card.proofs.blocks_in.block_good.Tie as tie
-use Rattle.card.proofs.blocks_in.block_good.Reads as reads
-use Rattle.card.proofs.blocks_in.block_good.Lts as lts
-use Rattle.card.proofs.replies.done.Reads as done-reads
 
--- src/blocks_in.rt:93:18
-done-requires : tie.Need-done-requires
-done-requires c κs = search needs
-
--- src/blocks_in.rt:84:1
 returns : tie.Need-returns
 unfolding blockGood
 returns c = simp (c .done .ensures)
 
 pub block-good-spec : {M : Type 1} → statement M
-block-good-spec = tie.close (tie.spec done-requires returns)
+block-good-spec =
+    tie.close
+    (tie.spec
+    (λ c κs. search needs)
+    returns)

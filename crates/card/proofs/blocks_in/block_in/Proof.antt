@@ -1,39 +1,15 @@
+-- `card::blocks_in::block_in` meets its contract: what `judge` gives, and what `store` does with what `kept` gives.
+-- Assumes nothing.
 use mathlib.Core.Path.{ap, ap₂, _∙_}
 use mathlib.Core.List.{List}
 use Prim.Native.Nat.{ℕ}
+use borrow.Author.Needs.{needs}
 use denote.Ref.{now}
 use Rattle.card.specs.BlockIn.{storedBy, clearedBy}
 use Rattle.card.specs.declared.BlockJudged.{BlockJudged}
-use borrow.Author.Needs.{needs}
 use Rattle.card.proofs.blocks_in.block_in.Statement.{statement}
 use Rattle.card.proofs.blocks_in.block_in.Tie as tie
-use Rattle.card.proofs.blocks_in.block_in.Reads as reads
-use Rattle.card.proofs.blocks_in.block_in.Lts as lts
-use Rattle.card.proofs.blocks_in.judge.Reads as judge-reads
-use Rattle.card.proofs.blocks_in.kept.Reads as kept-reads
-use Rattle.card.proofs.blocks_in.store.Reads as store-reads
 
--- src/blocks_in.rt:259:9
-judge-requires : tie.Need-judge-requires
-judge-requires c κs = search needs
-
--- src/blocks_in.rt:261:20
-kept-requires : tie.Need-kept-requires
-kept-requires c κs = search needs
-
--- src/blocks_in.rt:261:5
-store-requires : tie.Need-store-requires
-store-requires c κs = search needs
-
--- src/blocks_in.rt:254:1
-same-length : tie.Need-same-length
-same-length c = search needs
-
--- src/blocks_in.rt:254:1
-same-length-2 : tie.Need-same-length-2
-same-length-2 c = search needs
-
--- src/blocks_in.rt:254:1
 returns : tie.Need-returns
 returns c =
     let s = c .before .before .before .before .before in
@@ -52,4 +28,10 @@ returns c =
 pub block-in-spec : {M : Type 1} → statement M
 block-in-spec =
     tie.close
-    (tie.spec judge-requires kept-requires store-requires same-length same-length-2 returns)
+    (tie.spec
+    (λ c κs. search needs)
+    (λ c κs. search needs)
+    (λ c κs. search needs)
+    (λ c. search needs)
+    (λ c. search needs)
+    returns)

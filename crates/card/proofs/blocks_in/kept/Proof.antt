@@ -1,21 +1,17 @@
-use mathlib.Core.Path.{ap₂}
-use lib.ListN.{getD, set, length-replicate, replicate-append-replicate}
-use lib.Seq.{take-all, drop-at}
-use Rattle.base.proofs.Copy.{copy-turn}
-use mathlib.Core.Path.{_≡_, refl, ap, sym, _∙_}
+-- `card::blocks_in::kept` meets its contract: the loop's invariant: the bytes passed stand at the front, and zeros behind them.
+-- Assumes nothing.
+use mathlib.Core.Path.{_≡_, refl, sym, ap, ap₂, _∙_}
 use mathlib.Core.List.{List, _++_}
 use Prim.Native.Nat.{ℕ, _+_, _-_, _≤_}
 use native.Mathlib.Omega.{arith}
 use borrow.Author.Needs.{needs}
 use denote.Ref.{now}
-use lib.ListN.{length, take, drop, replicate}
-use mathlib.Core.Path.{refl}
-use borrow.Author.Tests.{le-leb}
+use lib.ListN.{length, take, drop, getD, set, replicate, length-replicate, replicate-append-replicate}
+use lib.Seq.{take-all, drop-at}
+use Rattle.base.proofs.Copy.{copy-turn}
 use Rattle.card.specs.BlockIn.{keptOf}
 use Rattle.card.proofs.blocks_in.kept.Statement.{statement}
 use Rattle.card.proofs.blocks_in.kept.Tie as tie
-use Rattle.card.proofs.blocks_in.kept.Reads as reads
-use Rattle.card.proofs.blocks_in.kept.Lts as lts
 
 -- the array that the copy begins with
 unfoldable zeros : List ℕ
@@ -44,12 +40,10 @@ Inv-loop block bytes₀ i₀ bytes i = (i ≤ 512) × (i ≤ length block) × (b
 abbrev μ-loop : tie.MeasureT-loop
 μ-loop block bytes₀ i₀ bytes i = 512 - i
 
--- src/blocks_in.rt:228:5
 loop-holds : tie.Need-loop-holds Inv-loop μ-loop
 unfolding zeros
 loop-holds c = (omega arith, omega arith, refl)
 
--- src/blocks_in.rt:230:13
 returns : tie.Need-returns Inv-loop μ-loop
 returns c =
     let l = c .before .before in
@@ -58,23 +52,6 @@ returns c =
     l .loop .inv .2
     ∙ all b i (omega arith) (take-all i b (c .if1 .taken) ∙ sym (take-all 512 b (omega arith))) (omega arith)
 
--- src/blocks_in.rt:232:20
-shared-slice-read-bytes : tie.Need-shared-slice-read-bytes Inv-loop μ-loop
-shared-slice-read-bytes c = search needs
-
--- src/blocks_in.rt:232:9
-array-write-bytes : tie.Need-array-write-bytes Inv-loop μ-loop
-array-write-bytes c = search needs
-
--- src/blocks_in.rt:233:9
-add-i : tie.Need-add-i Inv-loop μ-loop
-add-i c = search needs
-
--- src/blocks_in.rt:228:5
-loop-less : tie.Need-loop-less Inv-loop μ-loop
-loop-less c = search needs
-
--- src/blocks_in.rt:228:5
 loop-again : tie.Need-loop-again Inv-loop μ-loop
 loop-again c =
     let l = c .before .before .before in
@@ -82,7 +59,6 @@ loop-again c =
     let i = l .loop .i in
     (search needs, search needs, ap (λ (x : List ℕ). set x i (getD b i 0)) (l .loop .inv .2) ∙ copy-turn b zeros i (search needs) (omega (arith, zeros-long)))
 
--- src/blocks_in.rt:223:1
 returns-2 : tie.Need-returns-2 Inv-loop μ-loop
 returns-2 c =
     let l = c .before in
@@ -99,9 +75,9 @@ kept-spec =
     μ-loop
     loop-holds
     returns
-    shared-slice-read-bytes
-    array-write-bytes
-    add-i
-    loop-less
+    (λ c. search needs)
+    (λ c. search needs)
+    (λ c. search needs)
+    (λ c. search needs)
     loop-again
     returns-2)

@@ -1,17 +1,12 @@
+-- `card::blocks_in::unread` meets its contract: the record is as it was.
+-- Assumes nothing.
 use borrow.Author.Needs.{needs}
 use Rattle.card.proofs.blocks_in.unread.Statement.{statement}
 use Rattle.card.proofs.blocks_in.unread.Tie as tie
-use Rattle.card.proofs.blocks_in.unread.Reads as reads
-use Rattle.card.proofs.blocks_in.unread.Lts as lts
-use Rattle.card.proofs.replies.refuse.Reads as refuse-reads
-
--- src/blocks_in.rt:187:18
-refuse-requires : tie.Need-refuse-requires
-refuse-requires c κs = search needs
-
--- src/blocks_in.rt:183:1
-returns : tie.Need-returns
-returns c = simp (c .refuse .ensures)
 
 pub unread-spec : {M : Type 1} → statement M
-unread-spec = tie.close (tie.spec refuse-requires returns)
+unread-spec =
+    tie.close
+    (tie.spec
+    (λ c κs. search needs)
+    (λ c. simp (c .refuse .ensures)))

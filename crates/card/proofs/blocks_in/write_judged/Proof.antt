@@ -1,40 +1,23 @@
-use mathlib.Core.Path.{_≡_, ap, sym, _∙_}
+-- `card::blocks_in::write_judged` meets its contract: 18 and 19 in their order.
+-- Assumes nothing.
+use mathlib.Core.Path.{_≡_, sym, ap, _∙_}
 use mathlib.Core.Bool.{Bool}
 use mathlib.Core.List.{List}
 use Prim.Native.Nat.{ℕ, _/_, _≤_, _<_}
 use native.Mathlib.Omega.{arith}
+use borrow.Author.Needs.{needs}
 use borrow.Author.Tests.{le-ltb, lt-ltb}
 use denote.Ref.{now}
-use Rattle.record.specs.Record.{sizeOf, csdProtects}
+use Rattle.record.specs.Record.{sizeOf}
 use Rattle.store.specs.Map.{protectedIn}
-use mathlib.Core.Path.{sym, _∙_}
-use borrow.Author.Tests.{le-leb, lt-leb}
 use Rattle.card.specs.BlockIn.{writeJudged}
-use borrow.Author.Needs.{needs}
 use Rattle.card.proofs.blocks_in.write_judged.Statement.{statement}
 use Rattle.card.proofs.blocks_in.write_judged.Tie as tie
-use Rattle.card.proofs.blocks_in.write_judged.Reads as reads
-use Rattle.card.proofs.blocks_in.write_judged.Lts as lts
-use Rattle.card.proofs.blocks_in.after_stored.Reads as after-stored-reads
-use Rattle.card.proofs.blocks_in.block_good.Reads as block-good-reads
-use Rattle.card.proofs.blocks_in.block_refused.Reads as block-refused-reads
-use Rattle.record.proofs.csd_protects.Reads as csd-protects-reads
-use Rattle.record.proofs.size.Reads as size-reads
-use Rattle.store.proofs.protected.Reads as protected-reads
 
 -- what `protected` told, of the CSD's own answer
 guarded : (map : List ℕ) (sector : ℕ) {whole told said : Bool} → whole ≡ said → told ≡ protectedIn map whole sector → protectedIn map said sector ≡ told
 guarded map sector e p = ap (λ (w : Bool). protectedIn map w sector) (sym e) ∙ sym p
 
--- src/blocks_in.rt:103:8
-size-requires : tie.Need-size-requires
-size-requires c κs = search needs
-
--- src/blocks_in.rt:104:9
-block-refused-requires : tie.Need-block-refused-requires
-block-refused-requires c κs = search needs
-
--- src/blocks_in.rt:104:9
 returns : tie.Need-returns
 unfolding writeJudged
 returns c =
@@ -42,19 +25,6 @@ returns c =
     let past : sizeOf (a .card .registers .groups) / 512 ≤ a .sector = omega arith in
     simp (c .block-refused .ensures, le-ltb _ _ past)
 
--- src/blocks_in.rt:112:9
-csd-protects-requires : tie.Need-csd-protects-requires
-csd-protects-requires c κs = search needs
-
--- src/blocks_in.rt:113:8
-protected-requires : tie.Need-protected-requires
-protected-requires c κs = search needs
-
--- src/blocks_in.rt:114:9
-block-refused-requires-2 : tie.Need-block-refused-requires-2
-block-refused-requires-2 c κs = search needs
-
--- src/blocks_in.rt:114:9
 returns-2 : tie.Need-returns-2
 unfolding writeJudged
 returns-2 c =
@@ -67,23 +37,6 @@ returns-2 c =
       guarded (now (a .map)) (a .sector) (p .before .csd-protects .ensures) (p .protected .ensures) ∙ c .before .if2 .taken,
     )
 
--- src/blocks_in.rt:121:40
-mul-after-stored : tie.Need-mul-after-stored
-mul-after-stored c = search needs
-
--- src/blocks_in.rt:121:40
-add-after-stored : tie.Need-add-after-stored
-add-after-stored c = search needs
-
--- src/blocks_in.rt:121:9
-after-stored-requires : tie.Need-after-stored-requires
-after-stored-requires c κs = search needs
-
--- src/blocks_in.rt:122:5
-block-good-requires : tie.Need-block-good-requires
-block-good-requires c κs = search needs
-
--- src/blocks_in.rt:99:1
 returns-3 : tie.Need-returns-3
 unfolding writeJudged
 returns-3 c =
@@ -101,15 +54,15 @@ pub write-judged-spec : {M : Type 1} → statement M
 write-judged-spec =
     tie.close
     (tie.spec
-    size-requires
-    block-refused-requires
+    (λ c κs. search needs)
+    (λ c κs. search needs)
     returns
-    csd-protects-requires
-    protected-requires
-    block-refused-requires-2
+    (λ c κs. search needs)
+    (λ c κs. search needs)
+    (λ c κs. search needs)
     returns-2
-    mul-after-stored
-    add-after-stored
-    after-stored-requires
-    block-good-requires
+    (λ c. search needs)
+    (λ c. search needs)
+    (λ c κs. search needs)
+    (λ c κs. search needs)
     returns-3)

@@ -1,33 +1,16 @@
+-- `card::blocks_out::after_sent` meets its contract: a read of many goes on at the address behind the block, and every other block leads to tran.
+-- Assumes nothing.
 use borrow.Author.Needs.{needs}
 use Rattle.card.proofs.blocks_out.after_sent.Statement.{statement}
 use Rattle.card.proofs.blocks_out.after_sent.Tie as tie
-use Rattle.card.proofs.blocks_out.after_sent.Reads as reads
-use Rattle.card.proofs.blocks_out.after_sent.Lts as lts
-
--- src/blocks_out.rt:69:29
-enum-told : tie.Need-enum-told
-enum-told c = search needs
-
--- src/blocks_out.rt:70:42
-enum-told-2 : tie.Need-enum-told-2
-enum-told-2 c = search needs
-
--- src/blocks_out.rt:71:36
-enum-told-3 : tie.Need-enum-told-3
-enum-told-3 c = search needs
-
--- src/blocks_out.rt:65:1
-returns : tie.Need-returns
-returns c = search needs
-
--- src/blocks_out.rt:65:1
-returns-2 : tie.Need-returns-2
-returns-2 c = simp (c .enum-told2 .given .1)
-
--- src/blocks_out.rt:65:1
-returns-3 : tie.Need-returns-3
-returns-3 c = search needs
 
 pub after-sent-spec : {M : Type 1} → statement M
 after-sent-spec =
-    tie.close (tie.spec enum-told enum-told-2 enum-told-3 returns returns-2 returns-3)
+    tie.close
+    (tie.spec
+    (λ c. search needs)
+    (λ c. search needs)
+    (λ c. search needs)
+    (λ c. search needs)
+    (λ c. simp (c .enum-told2 .given .1))
+    (λ c. search needs))

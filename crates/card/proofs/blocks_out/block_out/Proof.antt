@@ -1,28 +1,27 @@
-use Rattle.card.specs.BlockOut.{outJudged}
+-- `card::blocks_out::block_out` meets its contract: what `judge` gives, and what `send` does with it.
+-- Assumes nothing.
+use mathlib.Core.Path.{ap, _∙_}
 use borrow.Author.Needs.{needs}
+use denote.Ref.{now}
+use Rattle.card.specs.BlockOut.{sentOut}
+use Rattle.card.specs.declared.OutJudged.{OutJudged}
 use Rattle.card.proofs.blocks_out.block_out.Statement.{statement}
 use Rattle.card.proofs.blocks_out.block_out.Tie as tie
-use Rattle.card.proofs.blocks_out.block_out.Reads as reads
-use Rattle.card.proofs.blocks_out.block_out.Lts as lts
-use Rattle.card.proofs.blocks_out.judge.Reads as judge-reads
-use Rattle.card.proofs.blocks_out.send.Reads as send-reads
 
--- src/blocks_out.rt:198:9
-judge-requires : tie.Need-judge-requires
-judge-requires c κs = search needs
-
--- src/blocks_out.rt:200:5
-send-requires : tie.Need-send-requires
-send-requires c κs = search needs
-
--- src/blocks_out.rt:194:1
-same-length : tie.Need-same-length
-same-length c = search needs
-
--- src/blocks_out.rt:194:1
 returns : tie.Need-returns
-unfolding outJudged
-returns c = (simp (c .before .before .before .send .ensures, c .before .before .before .before .before .judge .ensures), (simp (c .before .before .before .send .ensures, c .before .before .before .before .before .judge .ensures)))
+returns c =
+    let s = c .before .before .before in
+    let j = s .before .before in
+    let a = j .before .before .before .before .args in (
+      ap (λ (x : OutJudged). x .stepped) (j .judge .ensures),
+      s .send .ensures ∙ ap (λ (x : OutJudged). sentOut (now (a .memory)) (now (a .map)) (now (a .out)) (x .sending)) (j .judge .ensures),
+    )
 
 pub block-out-spec : {M : Type 1} → statement M
-block-out-spec = tie.close (tie.spec judge-requires send-requires same-length returns)
+block-out-spec =
+    tie.close
+    (tie.spec
+    (λ c κs. search needs)
+    (λ c κs. search needs)
+    (λ c. search needs)
+    returns)

@@ -1,39 +1,18 @@
-use borrow.Author.Tests.{not-true, not-false}
+-- `card::blocks_out::judge` meets its contract: 12, and then the state.
+-- Assumes nothing.
 use mathlib.Core.Path.{sym, _∙_}
-use Rattle.card.specs.BlockOut.{outJudged}
 use borrow.Author.Needs.{needs}
+use borrow.Author.Tests.{not-true, not-false}
+use Rattle.card.specs.BlockOut.{outJudged}
 use Rattle.card.proofs.blocks_out.judge.Statement.{statement}
 use Rattle.card.proofs.blocks_out.judge.Tie as tie
-use Rattle.card.proofs.blocks_out.judge.Reads as reads
-use Rattle.card.proofs.blocks_out.judge.Lts as lts
-use Rattle.card.proofs.blocks_out.state_sends.Reads as state-sends-reads
-use Rattle.card.proofs.blocks_out.unsent.Reads as unsent-reads
-use Rattle.store.proofs.lent_right.Reads as lent-right-reads
 
--- src/blocks_out.rt:140:40
-cast-lent-right : tie.Need-cast-lent-right
-cast-lent-right c = search needs
-
--- src/blocks_out.rt:140:9
-lent-right-requires : tie.Need-lent-right-requires
-lent-right-requires c κs = search needs
-
--- src/blocks_out.rt:141:9
-unsent-requires : tie.Need-unsent-requires
-unsent-requires c κs = search needs
-
--- src/blocks_out.rt:141:9
 returns : tie.Need-returns
 unfolding outJudged
 returns c =
     let l = c .before .before .lent-right in
     simp (c .unsent .ensures, sym (l .ensures) ∙ not-true (l .result) (c .before .if1 .taken))
 
--- src/blocks_out.rt:145:5
-state-sends-requires : tie.Need-state-sends-requires
-state-sends-requires c κs = search needs
-
--- src/blocks_out.rt:137:1
 returns-2 : tie.Need-returns-2
 unfolding outJudged
 returns-2 c =
@@ -44,9 +23,9 @@ pub judge-spec : {M : Type 1} → statement M
 judge-spec =
     tie.close
     (tie.spec
-    cast-lent-right
-    lent-right-requires
-    unsent-requires
+    (λ c. search needs)
+    (λ c κs. search needs)
+    (λ c κs. search needs)
     returns
-    state-sends-requires
+    (λ c κs. search needs)
     returns-2)

@@ -1,19 +1,18 @@
+-- `card::blocks_out::out_good` meets its contract: the state is the one given, and all else is as it was.
+-- Assumes nothing.
 use mathlib.Core.Path.{refl}
-use Rattle.card.specs.BlockOut.{outGood}
 use borrow.Author.Needs.{needs}
+use Rattle.card.specs.BlockOut.{outGood}
 use Rattle.card.proofs.blocks_out.out_good.Statement.{statement}
 use Rattle.card.proofs.blocks_out.out_good.Tie as tie
-use Rattle.card.proofs.blocks_out.out_good.Reads as reads
-use Rattle.card.proofs.blocks_out.out_good.Lts as lts
 
--- src/blocks_out.rt:56:41
-add-t15 : tie.Need-add-t15
-add-t15 c = search needs
-
--- src/blocks_out.rt:45:1
 returns : tie.Need-returns
 unfolding outGood
 returns c = refl
 
 pub out-good-spec : {M : Type 1} → statement M
-out-good-spec = tie.close (tie.spec add-t15 returns)
+out-good-spec =
+    tie.close
+    (tie.spec
+    (λ c. search needs)
+    returns)

@@ -1,24 +1,18 @@
-use Rattle.card.specs.BlockOut.{outRefused}
+-- `card::blocks_out::out_refused` meets its contract: the bit is set, and all else is as it was.
+-- Assumes nothing.
 use borrow.Author.Needs.{needs}
+use Rattle.card.specs.BlockOut.{outRefused}
 use Rattle.card.proofs.blocks_out.out_refused.Statement.{statement}
 use Rattle.card.proofs.blocks_out.out_refused.Tie as tie
-use Rattle.card.proofs.blocks_out.out_refused.Reads as reads
-use Rattle.card.proofs.blocks_out.out_refused.Lts as lts
-use Rattle.card.proofs.blocks_out.unsent.Reads as unsent-reads
-use Rattle.status.proofs.set.Reads as set-reads
 
--- src/blocks_out.rt:36:25
-set-requires : tie.Need-set-requires
-set-requires c κs = search needs
-
--- src/blocks_out.rt:33:5
-unsent-requires : tie.Need-unsent-requires
-unsent-requires c κs = search needs
-
--- src/blocks_out.rt:29:1
 returns : tie.Need-returns
 unfolding outRefused
 returns c = simp (c .unsent .ensures, c .before .before .before .before .set .ensures)
 
 pub out-refused-spec : {M : Type 1} → statement M
-out-refused-spec = tie.close (tie.spec set-requires unsent-requires returns)
+out-refused-spec =
+    tie.close
+    (tie.spec
+    (λ c κs. search needs)
+    (λ c κs. search needs)
+    returns)

@@ -1,31 +1,24 @@
-use borrow.Author.Tests.{le-leb, lt-leb}
-use borrow.Author.Tests.{le-ltb, lt-ltb}
-use Rattle.card.specs.BlockOut.{protectionJudged}
+-- `card::blocks_out::protection_judged` meets its contract: 6, and else the bits go out.
+-- Assumes nothing.
 use borrow.Author.Needs.{needs}
+use borrow.Author.Tests.{le-leb, lt-leb}
+use Rattle.card.specs.BlockOut.{protectionJudged}
 use Rattle.card.proofs.blocks_out.protection_judged.Statement.{statement}
 use Rattle.card.proofs.blocks_out.protection_judged.Tie as tie
-use Rattle.card.proofs.blocks_out.protection_judged.Reads as reads
-use Rattle.card.proofs.blocks_out.protection_judged.Lts as lts
-use Rattle.card.proofs.blocks_out.out_good.Reads as out-good-reads
-use Rattle.card.proofs.blocks_out.unsent.Reads as unsent-reads
 
--- src/blocks_out.rt:102:9
-unsent-requires : tie.Need-unsent-requires
-unsent-requires c κs = search needs
-
--- src/blocks_out.rt:102:9
 returns : tie.Need-returns
 unfolding protectionJudged
 returns c = simp (c .unsent .ensures, lt-leb _ _ (c .before .if1 .taken))
 
--- src/blocks_out.rt:104:5
-out-good-requires : tie.Need-out-good-requires
-out-good-requires c κs = search needs
-
--- src/blocks_out.rt:98:1
 returns-2 : tie.Need-returns-2
 unfolding protectionJudged
 returns-2 c = simp (c .out-good .ensures, le-leb _ _ (c .before .if1 .left))
 
 pub protection-judged-spec : {M : Type 1} → statement M
-protection-judged-spec = tie.close (tie.spec unsent-requires returns out-good-requires returns-2)
+protection-judged-spec =
+    tie.close
+    (tie.spec
+    (λ c κs. search needs)
+    returns
+    (λ c κs. search needs)
+    returns-2)

@@ -1,10 +1,13 @@
-use mathlib.Core.Path.{_≡_, refl, sym, ap, ap₂, _∙_}
+-- `card::blocks_out::send_part` meets its contract: the part read into the front and the two bytes stored behind it are the block.
+-- Assumes nothing.
+use mathlib.Core.Path.{_≡_, sym, ap, ap₂, _∙_}
 use mathlib.Core.Bool.{true, false}
 use mathlib.Core.List.{List, [], _∷_, _++_}
 use Prim.Native.Nat.{ℕ, _+_, _-_, _/_, _%_, _≤_, _<_}
 use native.Mathlib.Nat.{sub-zero}
 use native.Mathlib.Numerals.{add-one}
 use native.Mathlib.Omega.{arith}
+use borrow.Author.Needs.{needs}
 use borrow.Author.Tests.{le-leb, lt-leb, leb-true, not-true, not-false}
 use denote.Ref.{now}
 use lib.ListN.{length, take, drop, set, length-set, length-drop, take-append-drop}
@@ -12,16 +15,9 @@ use lib.Seq.{sets-eq, take-at, drop-append-add, drop-drop, length-front, length-
 use Rattle.crc.specs.Crc.{crc16}
 use Rattle.store.specs.Memory.{inside, partOf, partRead}
 use Rattle.wire.specs.Blocks.{blockOf}
-use mathlib.Core.Path.{sym, _∙_}
-use borrow.Author.Tests.{le-ltb, lt-ltb}
 use Rattle.card.specs.BlockOut.{partSent}
-use borrow.Author.Needs.{needs}
 use Rattle.card.proofs.blocks_out.send_part.Statement.{statement}
 use Rattle.card.proofs.blocks_out.send_part.Tie as tie
-use Rattle.card.proofs.blocks_out.send_part.Reads as reads
-use Rattle.card.proofs.blocks_out.send_part.Lts as lts
-use Rattle.crc.proofs.crc16.Reads as crc16-reads
-use Rattle.store.proofs.read_part.Reads as read-part-reads
 
 -- p is the payload, o the output at entry and l with the payload at its front, s the sum
 stored : (p o l : List ℕ) (n s : ℕ) → length p ≡ n → n + 2 ≤ length o → l ≡ p ++ drop n o → s ≡ crc16 p
@@ -60,7 +56,6 @@ module _ (m o front : List ℕ) (at n k : ℕ) (ek : k ≡ n) (room : n + 2 ≤ 
       simp (le-leb (n + 2) (length o) room, yes)
       (stored p o (front ++ drop k o) n s whole room l (es ∙ ap crc16 (ap₂ take ek l ∙ take-at p (drop n o) n whole)))
 
--- src/blocks_out.rt:147:9
 returns : tie.Need-returns
 unfolding partSent
 returns c =
@@ -68,11 +63,6 @@ returns c =
     let no : length (now (a .out)) < a .n + 2 = omega arith in
     simp (lt-leb _ _ no)
 
--- src/blocks_out.rt:149:8
-sub-if2 : tie.Need-sub-if2
-sub-if2 c = search needs
-
--- src/blocks_out.rt:150:9
 returns-2 : tie.Need-returns-2
 unfolding partSent
 returns-2 c =
@@ -80,27 +70,6 @@ returns-2 c =
     let no : length (now (a .out)) < a .n + 2 = omega arith in
     simp (lt-leb _ _ no)
 
--- src/blocks_out.rt:152:47
-sub-read-part : tie.Need-sub-read-part
-sub-read-part c = search needs
-
--- src/blocks_out.rt:152:47
-part-read-part-start : tie.Need-part-read-part-start
-part-read-part-start c = search needs
-
--- src/blocks_out.rt:152:47
-part-read-part-end : tie.Need-part-read-part-end
-part-read-part-end c = search needs
-
--- src/blocks_out.rt:152:9
-read-part-requires : tie.Need-read-part-requires
-read-part-requires c κs = search needs
-
--- src/blocks_out.rt:154:9
-same-length : tie.Need-same-length
-same-length c = search needs
-
--- src/blocks_out.rt:154:9
 returns-3 : tie.Need-returns-3
 returns-3 c =
     let r = c .before .before .before in
@@ -109,47 +78,6 @@ returns-3 c =
     refused (now (a .memory)) (now (a .out)) (p .last .1 .1 .0) (a .at) (a .n) (a .n - 0) (sub-zero (a .n)) (omega arith) (p .ensures .1)
     (sym (p .ensures .0) ∙ not-true (p .result) (c .if3 .taken))
 
--- src/blocks_out.rt:156:26
-sub-crc16 : tie.Need-sub-crc16
-sub-crc16 c = search needs
-
--- src/blocks_out.rt:156:26
-part-crc16-start : tie.Need-part-crc16-start
-part-crc16-start c = search needs
-
--- src/blocks_out.rt:156:26
-part-crc16-end : tie.Need-part-crc16-end
-part-crc16-end c = search needs
-
--- src/blocks_out.rt:156:9
-crc16-requires : tie.Need-crc16-requires
-crc16-requires c κs = search needs
-
--- src/blocks_out.rt:157:14
-cast-out : tie.Need-cast-out
-cast-out c = search needs
-
--- src/blocks_out.rt:157:5
-slice-write-out : tie.Need-slice-write-out
-slice-write-out c = search needs
-
--- src/blocks_out.rt:158:18
-cast-out-2 : tie.Need-cast-out-2
-cast-out-2 c = search needs
-
--- src/blocks_out.rt:158:9
-add-out : tie.Need-add-out
-add-out c = search needs
-
--- src/blocks_out.rt:158:5
-slice-write-out-2 : tie.Need-slice-write-out-2
-slice-write-out-2 c = simp length-set (omega arith)
-
--- src/blocks_out.rt:143:1
-same-length-2 : tie.Need-same-length-2
-same-length-2 c = search needs
-
--- src/blocks_out.rt:143:1
 returns-4 : tie.Need-returns-4
 returns-4 c =
     let r = c .before .before .before .before .before .before in
@@ -165,22 +93,22 @@ send-part-spec =
     tie.close
     (tie.spec
     returns
-    sub-if2
+    (λ c. search needs)
     returns-2
-    sub-read-part
-    part-read-part-start
-    part-read-part-end
-    read-part-requires
-    same-length
+    (λ c. search needs)
+    (λ c. search needs)
+    (λ c. search needs)
+    (λ c κs. search needs)
+    (λ c. search needs)
     returns-3
-    sub-crc16
-    part-crc16-start
-    part-crc16-end
-    crc16-requires
-    cast-out
-    slice-write-out
-    cast-out-2
-    add-out
-    slice-write-out-2
-    same-length-2
+    (λ c. search needs)
+    (λ c. search needs)
+    (λ c. search needs)
+    (λ c κs. search needs)
+    (λ c. search needs)
+    (λ c. search needs)
+    (λ c. search needs)
+    (λ c. search needs)
+    (λ c. simp length-set (omega arith))
+    (λ c. search needs)
     returns-4)

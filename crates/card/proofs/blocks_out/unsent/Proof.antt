@@ -1,17 +1,12 @@
+-- `card::blocks_out::unsent` meets its contract: the record is as it was.
+-- Assumes nothing.
 use borrow.Author.Needs.{needs}
 use Rattle.card.proofs.blocks_out.unsent.Statement.{statement}
 use Rattle.card.proofs.blocks_out.unsent.Tie as tie
-use Rattle.card.proofs.blocks_out.unsent.Reads as reads
-use Rattle.card.proofs.blocks_out.unsent.Lts as lts
-use Rattle.card.proofs.replies.refuse.Reads as refuse-reads
-
--- src/blocks_out.rt:23:18
-refuse-requires : tie.Need-refuse-requires
-refuse-requires c κs = search needs
-
--- src/blocks_out.rt:19:1
-returns : tie.Need-returns
-returns c = simp (c .refuse .ensures)
 
 pub unsent-spec : {M : Type 1} → statement M
-unsent-spec = tie.close (tie.spec refuse-requires returns)
+unsent-spec =
+    tie.close
+    (tie.spec
+    (λ c κs. search needs)
+    (λ c. simp (c .refuse .ensures)))

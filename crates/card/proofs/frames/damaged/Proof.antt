@@ -1,17 +1,12 @@
+-- `card::frames::damaged` meets its contract: the link is the one that `command` gives.
+-- Assumes nothing.
 use borrow.Author.Needs.{needs}
 use Rattle.card.proofs.frames.damaged.Statement.{statement}
 use Rattle.card.proofs.frames.damaged.Tie as tie
-use Rattle.card.proofs.frames.damaged.Reads as reads
-use Rattle.card.proofs.frames.damaged.Lts as lts
-use Rattle.command.proofs.damaged.Reads as damaged-reads
-
--- src/frames.rt:61:15
-damaged-requires : tie.Need-damaged-requires
-damaged-requires c κs = search needs
-
--- src/frames.rt:56:1
-returns : tie.Need-returns
-returns c = simp (c .before .before .damaged .ensures)
 
 pub damaged-spec : {M : Type 1} → statement M
-damaged-spec = tie.close (tie.spec damaged-requires returns)
+damaged-spec =
+    tie.close
+    (tie.spec
+    (λ c κs. search needs)
+    (λ c. simp (c .before .before .damaged .ensures)))

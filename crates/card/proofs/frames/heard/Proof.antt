@@ -1,17 +1,12 @@
+-- `card::frames::heard` meets its contract: what `command` gives.
+-- Assumes nothing.
 use borrow.Author.Needs.{needs}
 use Rattle.card.proofs.frames.heard.Statement.{statement}
 use Rattle.card.proofs.frames.heard.Tie as tie
-use Rattle.card.proofs.frames.heard.Reads as reads
-use Rattle.card.proofs.frames.heard.Lts as lts
-use Rattle.command.proofs.command.Reads as command-reads
-
--- src/frames.rt:40:9
-command-requires : tie.Need-command-requires
-command-requires c κs = search needs
-
--- src/frames.rt:30:1
-returns : tie.Need-returns
-returns c = simp (c .before .before .before .command .ensures)
 
 pub heard-spec : {M : Type 1} → statement M
-heard-spec = tie.close (tie.spec command-requires returns)
+heard-spec =
+    tie.close
+    (tie.spec
+    (λ c κs. search needs)
+    (λ c. simp (c .before .before .before .command .ensures)))

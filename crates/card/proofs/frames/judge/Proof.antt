@@ -1,65 +1,18 @@
-use borrow.Author.Tests.{not-true, not-false}
+-- `card::frames::judge` meets its contract: 12, then 1 and 2 as `unframe` tells them, then 3, and then the command.
+-- Assumes nothing.
 use mathlib.Core.Path.{sym, _∙_}
-use Rattle.card.specs.Frame.{frameJudged}
 use borrow.Author.Needs.{needs}
+use borrow.Author.Tests.{not-true, not-false}
+use Rattle.card.specs.Frame.{frameJudged}
 use Rattle.card.proofs.frames.judge.Statement.{statement}
 use Rattle.card.proofs.frames.judge.Tie as tie
-use Rattle.card.proofs.frames.judge.Reads as reads
-use Rattle.card.proofs.frames.judge.Lts as lts
-use Rattle.card.proofs.frames.damaged.Reads as damaged-reads
-use Rattle.card.proofs.frames.heard.Reads as heard-reads
-use Rattle.card.proofs.frames.unheard.Reads as unheard-reads
-use Rattle.store.proofs.lent_right.Reads as lent-right-reads
-use Rattle.wire.proofs.unframe.Reads as unframe-reads
 
--- src/frames.rt:70:40
-cast-lent-right : tie.Need-cast-lent-right
-cast-lent-right c = search needs
-
--- src/frames.rt:70:9
-lent-right-requires : tie.Need-lent-right-requires
-lent-right-requires c κs = search needs
-
--- src/frames.rt:71:9
-unheard-requires : tie.Need-unheard-requires
-unheard-requires c κs = search needs
-
--- src/frames.rt:71:9
 returns : tie.Need-returns
 unfolding frameJudged
 returns c =
     let l = c .before .before .lent-right in
     simp (c .unheard .ensures, sym (l .ensures) ∙ not-true (l .result) (c .before .if1 .taken))
 
--- src/frames.rt:73:9
-unframe-requires : tie.Need-unframe-requires
-unframe-requires c κs = search needs
-
--- src/frames.rt:76:13
-enum-known-framing : tie.Need-enum-known-framing
-enum-known-framing c = search needs
-
--- src/frames.rt:81:17
-heard-requires : tie.Need-heard-requires
-heard-requires c κs = search needs
-
--- src/frames.rt:83:25
-damaged-requires : tie.Need-damaged-requires
-damaged-requires c κs = search needs
-
--- src/frames.rt:83:17
-unheard-requires-2 : tie.Need-unheard-requires-2
-unheard-requires-2 c κs = search needs
-
--- src/frames.rt:86:27
-enum-known-framing-2 : tie.Need-enum-known-framing-2
-enum-known-framing-2 c = search needs
-
--- src/frames.rt:86:39
-unheard-requires-3 : tie.Need-unheard-requires-3
-unheard-requires-3 c κs = search needs
-
--- src/frames.rt:67:1
 returns-2 : tie.Need-returns-2
 unfolding frameJudged
 returns-2 c =
@@ -73,7 +26,6 @@ returns-2 c =
     )
     (c .heard .ensures)
 
--- src/frames.rt:67:1
 returns-3 : tie.Need-returns-3
 unfolding frameJudged
 returns-3 c =
@@ -88,7 +40,6 @@ returns-3 c =
       c .before .damaged .ensures,
     )
 
--- src/frames.rt:67:1
 returns-4 : tie.Need-returns-4
 unfolding frameJudged
 returns-4 c =
@@ -105,17 +56,17 @@ pub judge-spec : {M : Type 1} → statement M
 judge-spec =
     tie.close
     (tie.spec
-    cast-lent-right
-    lent-right-requires
-    unheard-requires
+    (λ c. search needs)
+    (λ c κs. search needs)
+    (λ c κs. search needs)
     returns
-    unframe-requires
-    enum-known-framing
-    heard-requires
-    damaged-requires
-    unheard-requires-2
-    enum-known-framing-2
-    unheard-requires-3
+    (λ c κs. search needs)
+    (λ c. search needs)
+    (λ c κs. search needs)
+    (λ c κs. search needs)
+    (λ c κs. search needs)
+    (λ c. search needs)
+    (λ c κs. search needs)
     returns-2
     returns-3
     returns-4)

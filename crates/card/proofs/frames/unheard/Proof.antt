@@ -1,17 +1,12 @@
+-- `card::frames::unheard` meets its contract: the record is as it was.
+-- Assumes nothing.
 use borrow.Author.Needs.{needs}
 use Rattle.card.proofs.frames.unheard.Statement.{statement}
 use Rattle.card.proofs.frames.unheard.Tie as tie
-use Rattle.card.proofs.frames.unheard.Reads as reads
-use Rattle.card.proofs.frames.unheard.Lts as lts
-use Rattle.card.proofs.replies.refuse.Reads as refuse-reads
-
--- src/frames.rt:24:18
-refuse-requires : tie.Need-refuse-requires
-refuse-requires c κs = search needs
-
--- src/frames.rt:20:1
-returns : tie.Need-returns
-returns c = simp (c .refuse .ensures)
 
 pub unheard-spec : {M : Type 1} → statement M
-unheard-spec = tie.close (tie.spec refuse-requires returns)
+unheard-spec =
+    tie.close
+    (tie.spec
+    (λ c κs. search needs)
+    (λ c. simp (c .refuse .ensures)))
