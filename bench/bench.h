@@ -1,11 +1,31 @@
 /* What the files of the benchmark share. The kit has no headers, so what is taken from the C library is declared by hand. */
 #ifndef BENCH_H
 #define BENCH_H
+#include "measured.h"
 
 typedef unsigned char u8;
 typedef unsigned short u16;
 typedef unsigned int u32;
 typedef unsigned long usize;
+
+/* Document 01's refusal numbers, as far as the plain C gives them, and its units of memory. */
+enum {
+    FRAME_LENGTH = 1,
+    FRAME_BITS = 2,
+    FRAME_CRC = 3,
+    INDEX = 4,
+    PAYLOAD_LENGTH = 5,
+    OUTPUT_SHORT = 6,
+    LENT = 12,
+    NO_BLOCK = 15,
+    BLOCK_LENGTH = 16,
+    BLOCK_CRC = 17,
+    PAST_END = 18,
+    PROTECTED = 19,
+    LOCK_FAILED = 20,
+    BLOCK_CROSSES = 21
+};
+enum { SECTOR = 512, GROUP_SECTORS = 16 };
 
 /* The calls that are compared: one set for the proved library, and one for each build of the plain C. */
 struct calls {
@@ -20,10 +40,20 @@ struct calls {
     _Bool (*read)(const u8 *memory, usize length, usize at, u8 *out, usize room);
     void (*write)(u8 *memory, usize length, u32 sector, const u8 *bytes);
     _Bool (*erase)(u8 *memory, usize length, const u8 *map, usize groups, u32 first, u32 last);
+    void (*frame)(struct measured_card *card, u8 *password, const u8 *frame, usize length, u8 *memory, usize size, u8 *map, usize groups);
+    void (*block_in)(struct measured_card *card, u8 *password, const u8 *block, usize length, u8 *memory, usize size, u8 *map, usize groups);
+    void (*block_out)(struct measured_card *card, const u8 *password, const u8 *memory, usize size, const u8 *map, usize groups, u8 *out, usize room);
+    void (*work_done)(struct measured_card *card, const u8 *password);
 };
 
 /* Compares `ours` with `theirs` on every input; ends the program where they differ. Returns how many calls agreed. */
 usize compare(const struct calls *ours, const struct calls *theirs);
+void compare_card(const struct calls *ours, const struct calls *theirs);
+void same(int equal, const char *what, const struct calls *theirs, long at);
+
+/* Numbers and bytes by chance, the same on every machine. */
+u32 next(void);
+void fill(u8 *bytes, usize length);
 
 /* What is measured: one call each, over inputs that are made once. */
 enum work {
@@ -39,14 +69,45 @@ enum work {
     WRITE_SECTOR,
     ERASE,
     ERASE_HALF,
+    CARD_FIRST,
+    WORK_DONE = CARD_FIRST,
+    CMD13,
+    CMD13_LARGE,
+    CMD7,
+    CMD9,
+    CMD16,
+    CMD17,
+    CMD24,
+    CMD28,
+    CMD32,
+    CMD38,
+    CMD42,
+    ILLEGAL,
+    CMD13_CRC,
+    CMD0,
+    REFUSED_12,
+    WRITE_CARD,
+    READ_CARD,
+    LOCK_REQUEST,
     WORKS
 };
 void prepare(const struct calls *calls);
 void perform(const struct calls *calls, enum work work);
 void *code_of(const struct calls *calls, enum work work);
 
-/* The instructions that the work's call executes, from its first to its return; or -1 where they cannot be counted. */
-long count(const struct calls *calls, enum work work);
+/* The same for the works at a card, from CARD_FIRST on; and whether the work performed last did what its name says. */
+const char *card_work(enum work work);
+void prepare_card(const struct calls *calls);
+void perform_card(const struct calls *calls, enum work work);
+int performed(enum work work);
+void *card_code(const struct calls *calls, enum work work);
+
+/* The instructions that the work's call executes, from its first to its return, and the bytes of stack that it takes below its return
+   address; or -1 where they cannot be counted. */
+struct cost {
+    long instructions, stack;
+};
+struct cost count(const struct calls *calls, enum work work);
 
 int printf(const char *format, ...);
 void exit(int status) __attribute__((noreturn));

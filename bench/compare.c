@@ -5,19 +5,19 @@ static usize agreed;
 static u32 seed = 1;
 
 /* The same numbers on every machine. */
-static u32 next(void)
+u32 next(void)
 {
     seed = seed * 1103515245u + 12345u;
     return seed >> 16 ^ seed << 16;
 }
 
-static void fill(u8 *bytes, usize length)
+void fill(u8 *bytes, usize length)
 {
     for (usize i = 0; i < length; i++)
         bytes[i] = (u8)next();
 }
 
-static void same(int equal, const char *what, const struct calls *theirs, long at)
+void same(int equal, const char *what, const struct calls *theirs, long at)
 {
     if (!equal) {
         printf("DIFFERENT: %s, ours and %s, input %ld\n", what, theirs->name, at);
@@ -217,5 +217,6 @@ usize compare(const struct calls *ours, const struct calls *theirs)
     reads(ours, theirs);
     writes(ours, theirs);
     erases(ours, theirs);
+    compare_card(ours, theirs);
     return agreed;
 }

@@ -2,7 +2,10 @@
    its return are counted, the callees' among them. Nothing has to be taken off for the way to the call.
 
    An instruction with a `rep` prefix stops after each of its repetitions, before the last with the instruction pointer where it
-   was. It is one instruction, as a processor's own counter has it: a step that leaves the pointer where it was is not counted. */
+   was. It is one instruction, as a processor's own counter has it: a step that leaves the pointer where it was is not counted.
+
+   The stack is the lowest stack pointer seen, below the place of the return address. The 128 bytes under the pointer, which x86-64
+   lets a function use that calls no other, are not seen by that. */
 #include "bench.h"
 
 int fork(void);
@@ -29,30 +32,35 @@ static int step(int child, long *limit)
     return (*limit)-- > 0 && ptrace(SINGLESTEP, child, 0L, 0L) == 0 && waitpid(child, &status, 0) == child && stopped_by(status, SIGTRAP_);
 }
 
-static long counted(int child, long entry)
+static const struct cost NOT_COUNTED = {-1, -1};
+
+static struct cost counted(int child, long entry)
 {
     long limit = 4000000;
     while (ptrace(PEEKUSER, child, (long)RIP, 0L) != entry)
         if (!step(child, &limit))
-            return -1;
+            return NOT_COUNTED;
     long stack = ptrace(PEEKUSER, child, (long)RSP, 0L), back = ptrace(PEEKDATA, child, stack, 0L), n = 0;
-    long at = entry;
+    long at = entry, top = stack, lowest = stack;
     do {
         long before = at;
         if (!step(child, &limit))
-            return -1;
+            return NOT_COUNTED;
         at = ptrace(PEEKUSER, child, (long)RIP, 0L);
+        top = ptrace(PEEKUSER, child, (long)RSP, 0L);
         if (at != before)
             n++;
-    } while (at != back || ptrace(PEEKUSER, child, (long)RSP, 0L) <= stack);
-    return n;
+        if (top < lowest)
+            lowest = top;
+    } while (at != back || top <= stack);
+    return (struct cost){n, stack - lowest};
 }
 
-long count(const struct calls *calls, enum work work)
+struct cost count(const struct calls *calls, enum work work)
 {
     int child = fork(), status;
     if (child < 0)
-        return -1;
+        return NOT_COUNTED;
     if (child == 0) {
         if (ptrace(TRACEME, 0, 0L, 0L) != 0)
             _exit(1);
@@ -61,9 +69,9 @@ long count(const struct calls *calls, enum work work)
         _exit(0);
     }
     if (waitpid(child, &status, 0) != child || !stopped_by(status, SIGSTOP_))
-        return -1;
-    long n = counted(child, (long)code_of(calls, work));
+        return NOT_COUNTED;
+    struct cost cost = counted(child, (long)code_of(calls, work));
     kill(child, SIGKILL_);
     waitpid(child, &status, 0);
-    return n;
+    return cost;
 }

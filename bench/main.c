@@ -1,6 +1,5 @@
 /* The table: instructions and times of the proved calls and of plain C, in one run. */
 #include "bench.h"
-#include "measured.h"
 #include "mmc.h"
 #define PREFIX plain_
 #include "plain.h"
@@ -17,7 +16,8 @@ struct timespec {
 int clock_gettime(int clock, struct timespec *time);
 
 #define CALLS(name, p, q) \
-    {name, p##crc7, p##crc16, p##read_frame, p##write_command, p##write_block, p##check_block, q##fill, q##read, q##write, q##erase}
+    {name,     p##crc7, p##crc16, p##read_frame, p##write_command, p##write_block, p##check_block, q##fill, \
+     q##read,  q##write, q##erase, q##frame,      q##block_in,      q##block_out,   q##work_done}
 enum { SETS = 4 };
 static const struct calls SET[SETS] = {
     CALLS("ours", mmc_, measured_),
@@ -25,12 +25,12 @@ static const struct calls SET[SETS] = {
     CALLS("plain C -O2", free_, free_),
     CALLS("plain C -O2 in one file", one_, one_),
 };
-static const char *const NAMES[WORKS] = {
+static const char *const NAMES[CARD_FIRST] = {
     "CRC16, 2,048 bytes", "CRC7, 5 bytes",   "frame read",        "frame written",  "block written, 512", "block checked, 512",
     "filled, 8,192",      "copied out, 512", "copied out, 2,048", "sector written", "16 sectors erased",  "8 of 16 protected",
 };
 /* What is wanted at most of the instructions of plain C; 0 where nothing is wanted. */
-static const double WANTED[WORKS] = {1.1, 0, 1.5, 1.5, 0, 0, 1.5, 1.5, 1.5, 1.5, 1.5, 1.5};
+static const double WANTED[CARD_FIRST] = {1.1, 0, 1.5, 1.5, 0, 0, 1.5, 1.5, 1.5, 1.5, 1.5, 1.5};
 
 static u8 bytes[2048], frame[6], block[514], out[2050], memory[16384];
 /* The maps of a memory of two groups: the sectors 8 to 23 lie half in the one and half in the other. */
@@ -93,19 +93,20 @@ void perform(const struct calls *calls, enum work work)
         sink = calls->erase(memory, sizeof memory, HALF, 2, 8, 23);
         break;
     default:
+        perform_card(calls, work);
         break;
     }
 }
 
 void *code_of(const struct calls *calls, enum work work)
 {
-    void *const code[WORKS] = {
+    void *const code[CARD_FIRST] = {
         (void *)calls->crc16,         (void *)calls->crc7,        (void *)calls->read_frame,
         (void *)calls->write_command, (void *)calls->write_block, (void *)calls->check_block,
         (void *)calls->fill,          (void *)calls->read,        (void *)calls->read,
         (void *)calls->write,         (void *)calls->erase,       (void *)calls->erase,
     };
-    return code[work];
+    return work < CARD_FIRST ? code[work] : card_code(calls, work);
 }
 
 static double now(void)
@@ -131,11 +132,18 @@ static double timed(const struct calls *calls, enum work work)
     return least;
 }
 
+static const char *name_of(int work)
+{
+    return work < CARD_FIRST ? NAMES[work] : card_work((enum work)work);
+}
+
 static void head(const char *what, const char *where)
 {
-    printf("\n%s%s\n%-20s %8s", what, where, "", "ours");
+    printf("\n%s%s\n%-22s %8s", what, where, "", "ours");
     printf(" %8s %6s %8s %6s %8s %6s\n", "plain C", "ratio", "C -O2", "ratio", "one file", "ratio");
 }
+
+static struct cost costs[WORKS][SETS];
 
 static void counts(void)
 {
@@ -143,19 +151,34 @@ static void counts(void)
     for (int w = 0; w < WORKS; w++) {
         long n[SETS], least = 0;
         for (int s = 0; s < SETS; s++) {
-            n[s] = count(&SET[s], (enum work)w);
+            costs[w][s] = count(&SET[s], (enum work)w);
+            n[s] = costs[w][s].instructions;
             if (n[s] < least)
                 least = n[s];
         }
         if (least < 0) {
-            printf("%-20s not counted: here no process can step another\n", NAMES[w]);
+            printf("%-22s not counted: here no process can step another\n", name_of(w));
             continue;
         }
-        printf("%-20s %8ld", NAMES[w], n[0]);
+        printf("%-22s %8ld", name_of(w), n[0]);
         for (int s = 1; s < SETS; s++)
             printf(" %8ld %6.3f", n[s], (double)n[0] / (double)n[s]);
-        if (WANTED[w] > 0)
+        if (w < CARD_FIRST && WANTED[w] > 0)
             printf("  wanted %.1f of plain C: %s", WANTED[w], (double)n[0] <= WANTED[w] * (double)n[1] ? "met" : "NOT MET");
+        printf("\n");
+    }
+}
+
+static void stacks(void)
+{
+    printf("\nBytes of stack below the return address of one call\n%-22s %8s %8s %8s %8s\n", "", "ours", "plain C", "C -O2", "one file");
+    for (int w = CARD_FIRST; w < WORKS; w++) {
+        printf("%-22s", name_of(w));
+        for (int s = 0; s < SETS; s++)
+            if (costs[w][s].stack < 0)
+                printf(" %8s", "unseen");
+            else
+                printf(" %8ld", costs[w][s].stack);
         printf("\n");
     }
 }
@@ -167,7 +190,7 @@ static void times(const char *where)
         double t[SETS];
         for (int s = 0; s < SETS; s++)
             t[s] = timed(&SET[s], (enum work)w);
-        printf("%-20s %8.1f", NAMES[w], t[0]);
+        printf("%-22s %8.1f", name_of(w), t[0]);
         for (int s = 1; s < SETS; s++)
             printf(" %8.1f %6.3f", t[s], t[0] / t[s]);
         printf("\n");
@@ -180,7 +203,14 @@ int main(int argc, char **argv)
     for (int s = 1; s < SETS; s++)
         printf("ours and %s agree on %lu inputs\n", SET[s].name, compare(&SET[0], &SET[s]));
     prepare(&SET[0]);
+    prepare_card(&SET[0]);
+    for (int w = CARD_FIRST; w < WORKS; w++)
+        for (int s = 0; s < SETS; s++) {
+            perform(&SET[s], (enum work)w);
+            same(performed((enum work)w), name_of(w), &SET[s], w);
+        }
     counts();
+    stacks();
     times(argc > 1 ? argv[1] : "");
     return 0;
 }

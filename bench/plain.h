@@ -13,3 +13,7 @@ void PLAIN(fill)(u8 *memory, usize length);
 _Bool PLAIN(read)(const u8 *restrict memory, usize length, usize at, u8 *restrict out, usize room);
 void PLAIN(write)(u8 *restrict memory, usize length, u32 sector, const u8 *restrict bytes);
 _Bool PLAIN(erase)(u8 *restrict memory, usize length, const u8 *restrict map, usize groups, u32 first, u32 last);
+void PLAIN(frame)(struct measured_card *card, u8 *password, const u8 *frame, usize length, u8 *memory, usize size, u8 *map, usize groups);
+void PLAIN(block_in)(struct measured_card *card, u8 *password, const u8 *block, usize length, u8 *memory, usize size, u8 *map, usize groups);
+void PLAIN(block_out)(struct measured_card *card, const u8 *password, const u8 *memory, usize size, const u8 *map, usize groups, u8 *out, usize room);
+void PLAIN(work_done)(struct measured_card *card, const u8 *password);

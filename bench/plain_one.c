@@ -2,3 +2,5 @@
 #include "plain_crc.c"
 #include "plain_wire.c"
 #include "plain_store.c"
+#include "plain_card.c"
+#include "plain_blocks.c"

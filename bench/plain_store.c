@@ -2,8 +2,6 @@
 #include "bench.h"
 #include "plain.h"
 
-enum { SECTOR = 512, GROUP_SECTORS = 16 };
-
 void PLAIN(fill)(u8 *memory, usize length)
 {
     for (usize i = 0; i < length; i++)

@@ -2,8 +2,6 @@
 #include "bench.h"
 #include "plain.h"
 
-enum { FRAME_LENGTH = 1, FRAME_BITS = 2, FRAME_CRC = 3, INDEX = 4, PAYLOAD_LENGTH = 5, OUTPUT_SHORT = 6, BLOCK_CRC = 17 };
-
 u8 PLAIN(read_frame)(const u8 *frame, usize length, u8 *index, u32 *argument)
 {
     if (length != 6)

@@ -1,0 +1,44 @@
+/* What the files of the plain card share. */
+#ifndef PLAIN_CARD_H
+#define PLAIN_CARD_H
+
+enum { IDLE, READY, IDENT, STBY, TRAN, DATA_ONE, DATA_MANY, DATA_BITS, RCV_ONE, RCV_MANY, RCV_LOCK, PRG, DIS, INA };
+enum { NO_TAGS, START_SECTORS, START_GROUPS, FULL_SECTORS, FULL_GROUPS };
+enum { SENT_NOTHING, SENT_CID, SENT_CSD, SENT_OCR, SENT_R1 };
+enum { WHOLE_CARD = 0x30, LONGEST = 2048, GROUP = 8192, WROTE = 32 };
+
+#define OUT_OF_RANGE 0x80000000u
+#define ADDRESS_ERROR 0x40000000u
+#define BLOCK_LEN_ERROR 0x20000000u
+#define ERASE_SEQ_ERROR 0x10000000u
+#define ERASE_PARAM 0x08000000u
+#define WP_VIOLATION 0x04000000u
+#define LOCK_UNLOCK_FAILED 0x01000000u
+#define COM_CRC_ERROR 0x00800000u
+#define ILLEGAL_COMMAND 0x00400000u
+#define WP_ERASE_SKIP 0x00008000u
+#define ERASE_RESET 0x00002000u
+#define ERROR_BITS 0xFDC0A000u
+
+static inline u32 read_length(const struct measured_card *card)
+{
+    return card->length < 1 || card->length > LONGEST ? LONGEST : card->length;
+}
+
+static inline int lent_right(const struct measured_card *card, usize size, const u8 *map, usize groups)
+{
+    if (size % GROUP != 0 || size / GROUP != card->groups || groups != card->groups)
+        return 0;
+    for (usize i = 0; i < groups; i++)
+        if (map[i] > 1)
+            return 0;
+    return 1;
+}
+
+static inline void refuse(struct measured_card *card, u8 refusal, u32 error)
+{
+    card->errors |= error;
+    card->outcome = refusal;
+}
+
+#endif
