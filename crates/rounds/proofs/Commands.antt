@@ -1,0 +1,135 @@
+-- What CMD2 and CMD3 do at one card, whatever its record is.
+--   cid-sent         CMD2: a card in Ready that wins goes to Identification and has no tags; every other card is as it was
+--   address-taken    CMD3 of an address: a card in Identification is reached; every other card is as it was
+--   framed           a frame that the writer gives is read as its index and its argument, undamaged
+-- Assumes nothing.
+use mathlib.Core.Path.{_≡_, refl}
+use mathlib.Core.Bool.{Bool, true, false, _&&_}
+use Prim.Native.Nat.{ℕ, _*_, _/_, _≤_, _<_, _^_}
+use native.Mathlib.Omega.{arith}
+use borrow.Author.Tests.{le-leb}
+use lib.Dec.{eqb}
+use Rattle.base.specs.Choice.{pick}
+use Rattle.command.specs.Answers.{responseOf, answered, leftOf}
+use Rattle.command.specs.Arguments.{argumentFault}
+use Rattle.command.specs.Command.{resetTold, concluded, takenOf, commandOf}
+use Rattle.command.specs.Obey.{taggingOf, judgedOf, awaitedBy, obeyed}
+use Rattle.command.specs.declared.Met.{Met}
+use Rattle.command.specs.declared.Response.the-variants.{R2}
+use Rattle.moves.specs.Classes.{classOf}
+use Rattle.moves.specs.Moves.{moveOf}
+use Rattle.moves.specs.Rows.{rowOf}
+use Rattle.record.specs.declared.Link.{Link}
+use Rattle.states.specs.States.{columnOf, numberOf}
+use Rattle.states.specs.declared.State.{State}
+use Rattle.states.specs.declared.State.the-variants.{Idle, Ready, Ident, Stby, Tran, Data, Rcv, Prg, Dis, Ina}
+use Rattle.status.specs.Status.{noErrors}
+use Rattle.status.specs.declared.Errors.{Errors}
+use Rattle.tags.specs.Tagging.{noTags}
+use Rattle.tags.specs.declared.Tags.{Tags}
+use Rattle.wire.proofs.FrameTheorems.{read-after-write}
+use Rattle.wire.specs.Frames.{commandFrame, framingOf, frameOf, checked}
+use Rattle.wire.specs.declared.Frame.the-variants.{Command}
+use Rattle.wire.specs.declared.Framing.{Framing}
+use Rattle.wire.specs.declared.Framing.the-variants.{Framed, Unframed}
+
+-- ---- CMD2
+-- the link of a card that won: which error bits are pending is no matter here, since CMD3 clears them all
+abbrev pub identified : Link → Link
+identified link =
+    record { state = Ident; address = link .address; length = link .length; errors = leftOf R2 (resetTold link 2); tags = noTags }
+
+abbrev pub linkOf : State → ℕ → ℕ → Errors → Tags → Link
+linkOf state address length errors tags = record { state = state; address = address; length = length; errors = errors; tags = tags }
+
+abbrev pub metOf : ℕ → ℕ → Bool → Bool → Met
+metOf ocr groups locked wins = record { ocr = ocr; groups = groups; locked = locked; wins = wins }
+
+module _ (address length : ℕ) (errors : Errors) (tags : Tags) (ocr groups argument : ℕ) where
+  won : (locked : Bool) → commandOf (linkOf Ready address length errors tags) (metOf ocr groups locked true) 2 argument .link
+      ≡ identified (linkOf Ready address length errors tags)
+  unfolding commandOf rowOf moveOf takenOf judgedOf taggingOf argumentFault classOf concluded answered responseOf obeyed awaitedBy
+  won true = refl
+  won false = refl
+
+  -- in any other state it is silent
+  sent : (locked : Bool) (state : State) → commandOf (linkOf state address length errors tags) (metOf ocr groups locked true) 2 argument .link
+      ≡ pick (eqb (numberOf (columnOf state)) 1) (identified (linkOf state address length errors tags)) (linkOf state address length errors tags)
+  unfolding commandOf rowOf moveOf
+  sent locked Idle = refl
+  sent locked Ready = won locked
+  sent locked Ident = refl
+  sent locked Stby = refl
+  sent locked Tran = refl
+  sent locked (Data outgoing) = refl
+  sent locked (Rcv incoming) = refl
+  sent locked Prg = refl
+  sent locked Dis = refl
+  sent locked Ina = refl
+
+  lost : (locked : Bool) (state : State) → commandOf (linkOf state address length errors tags) (metOf ocr groups locked false) 2 argument .link
+      ≡ linkOf state address length errors tags
+  unfolding commandOf rowOf moveOf
+  lost locked Idle = refl
+  lost locked Ready = refl
+  lost locked Ident = refl
+  lost locked Stby = refl
+  lost locked Tran = refl
+  lost locked (Data outgoing) = refl
+  lost locked (Rcv incoming) = refl
+  lost locked Prg = refl
+  lost locked Dis = refl
+  lost locked Ina = refl
+
+pub cid-sent : (link : Link) (ocr groups : ℕ) (locked wins : Bool) (argument : ℕ)
+    → commandOf link (metOf ocr groups locked wins) 2 argument .link
+    ≡ pick (wins && eqb (numberOf (columnOf (link .state))) 1) (identified link) link
+cid-sent link ocr groups locked true argument =
+    sent (link .address) (link .length) (link .errors) (link .tags) ocr groups argument locked (link .state)
+cid-sent link ocr groups locked false argument =
+    lost (link .address) (link .length) (link .errors) (link .tags) ocr groups argument locked (link .state)
+
+-- ---- CMD3
+-- the link of a card that took an address
+abbrev pub stood : ℕ → Link → Link
+stood address link = record { state = Stby; address = address; length = link .length; errors = noErrors; tags = noTags }
+
+module _ (address length : ℕ) (errors : Errors) (tags : Tags) (ocr groups : ℕ) (wins : Bool) (given : ℕ) (some : 1 ≤ given) where
+  whole : given * 65536 / 65536 ≡ given
+  whole = omega arith
+
+  accepted : (locked : Bool) → commandOf (linkOf Ident address length errors tags) (metOf ocr groups locked wins) 3 (given * 65536) .link
+      ≡ stood given (linkOf Ident address length errors tags)
+  unfolding commandOf rowOf moveOf takenOf judgedOf taggingOf argumentFault classOf concluded answered responseOf obeyed awaitedBy
+  accepted true = rw (whole, le-leb 1 given some, whole)
+  accepted false = rw (whole, le-leb 1 given some, whole)
+
+  taken : (locked : Bool) (state : State) → commandOf (linkOf state address length errors tags) (metOf ocr groups locked wins) 3 (given * 65536) .link
+      ≡ pick (eqb (numberOf (columnOf state)) 2) (stood given (linkOf state address length errors tags)) (linkOf state address length errors tags)
+  unfolding commandOf rowOf moveOf
+  taken locked Idle = refl
+  taken locked Ready = refl
+  taken locked Ident = accepted locked
+  taken locked Stby = refl
+  taken locked Tran = refl
+  taken locked (Data outgoing) = refl
+  taken locked (Rcv incoming) = refl
+  taken locked Prg = refl
+  taken locked Dis = refl
+  taken locked Ina = refl
+
+pub address-taken : (link : Link) (ocr groups : ℕ) (locked wins : Bool) (address : ℕ) → 1 ≤ address
+    → commandOf link (metOf ocr groups locked wins) 3 (address * 65536) .link
+    ≡ pick (eqb (numberOf (columnOf (link .state))) 2) (stood address link) link
+address-taken link ocr groups locked wins address some =
+    taken (link .address) (link .length) (link .errors) (link .tags) ocr groups wins address some locked (link .state)
+
+-- ---- frames
+read-right : (framing : Framing) (index argument : ℕ) → checked framing ≡ Command index argument → framing ≡ Framed index argument true
+read-right (Unframed refusal) index argument e = let z : _≡_ {A = ℕ} 0 1 = cc in absurd (omega arith)
+read-right (Framed i a true) index argument e = cc
+read-right (Framed i a false) index argument e = let z : _≡_ {A = ℕ} 0 1 = cc in absurd (omega arith)
+
+pub framed : (index argument : ℕ) → index < 64 → argument < 2 ^ 32 → framingOf (commandFrame index argument) ≡ Framed index argument true
+unfolding frameOf
+framed index argument small fits = read-right (framingOf (commandFrame index argument)) index argument (read-after-write index argument small fits)

@@ -1,0 +1,12 @@
+pub mod Clones
+pub mod Commands
+pub mod Demand3
+pub mod Distinct
+pub mod OneRound
+pub mod MadeBus
+pub mod ManyRounds
+pub mod OnTheBus
+pub mod Reach
+pub mod Repeats
+pub mod Unread
+pub mod WrongBuses

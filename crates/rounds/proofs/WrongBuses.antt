@@ -1,0 +1,171 @@
+-- Buses that do not meet demand 3, each refuted on a bus of two cards in Ready, with the CIDs 0 and 1.
+--   idle-refuted      one that does nothing: round 1 has no answer
+--   frozen-refuted    one that changes no card, whatever it shows: round 1 reaches no card
+--   hasty-refuted     one that addresses every card in round 1 and then plays along: round 2 has no answer
+--   hasty-late        the same, whatever it shows: round 2 does not reach its card
+-- Document 01, "What each call owes": "A bus that does nothing fails round 1 of demand 3. A bus that addresses every card in round 1 and then
+-- plays along fails round 2."
+-- Assumes nothing.
+use mathlib.Core.Path.{_≡_, refl, ap}
+use mathlib.Core.Bool.{Bool, true}
+use mathlib.Core.List.{List, [], _∷_, _++_, map}
+use Prim.Native.Nat.{ℕ, zero, suc, _<_}
+use native.Mathlib.Omega.{arith}
+use lib.Dec.{eqb}
+use lib.ListN.{length, getD, replicate}
+use Rattle.base.specs.Choice.{pick}
+use Rattle.bus.specs.Bus.{cardsOf, withCards, metWith, commandAt, cardAfter, frameFrom, anyReady, longestOf, cidLine, andLine, lineOf, padded, commandFor, busFrame}
+use Rattle.bus.specs.declared.Bus.{Bus}
+use Rattle.bus.specs.declared.Shown.{Shown}
+use Rattle.bus.specs.declared.Shown.the-variants.{Line, Silent}
+use Rattle.card.specs.Sent.{sentBytes}
+use Rattle.command.specs.Answers.{responseOf, answered}
+use Rattle.command.specs.Arguments.{argumentFault}
+use Rattle.command.specs.Command.{resetTold, concluded, takenOf, commandOf}
+use Rattle.command.specs.Obey.{taggingOf, judgedOf, awaitedBy, obeyed, changeOf}
+use Rattle.crc.specs.Bits.{bits, Below}
+use Rattle.crc.specs.Crc.{divide, remainder}
+use Rattle.line.specs.Line.{line, contested, wins, together}
+use Rattle.lock.specs.Passwords.{holding, noPassword}
+use Rattle.moves.specs.Classes.{classOf}
+use Rattle.moves.specs.Moves.{moveOf}
+use Rattle.moves.specs.Rows.{transferRow, rowOf}
+use Rattle.record.specs.Making.{refusedMake}
+use Rattle.record.specs.Record.{withLink}
+use Rattle.record.specs.declared.Card.{Card}
+use Rattle.states.specs.States.{columnOf, numberOf}
+use Rattle.states.specs.declared.State.the-variants.{Ready}
+use Rattle.status.specs.Status.{noErrors, wordOf}
+use Rattle.tags.specs.Tagging.{noTags}
+use Rattle.wire.specs.Frames.{crc7Of, sealed, commandFrame, sentOf, framingOf}
+use Rattle.wire.specs.Responses.{r1Frame, r2Frame}
+use Rattle.rounds.specs.Demand3.{Step, roundsOf, answer, before, cardAt, readyOf, identifiers, reached, CidBytes, WellFormed, NoneIdentified, Rounds, Demand3}
+use Rattle.rounds.specs.Distinct.{insert, distinct}
+
+-- ---- the sample
+-- a card in Ready whose CID is 15 zeros and a last byte
+abbrev ready : ℕ → Card
+ready last =
+    record {
+      registers = record { cid = replicate 15 0 ++ (last ∷ []); csd = replicate 16 0; ocr = 0x00FF8000; groups = 1 };
+      lock = noPassword;
+      link = record { state = Ready; address = 1; length = 512; errors = noErrors; tags = noTags };
+    }
+
+abbrev two : Bus
+two = record { cards = ready 1 ∷ ready 0 ∷ replicate 28 refusedMake; count = 2 }
+
+-- each CID is 16 bytes
+abbrev Each : List Card → Type 0
+Each [] = Unit {0}
+Each (c ∷ cards) = CidBytes (c .registers .cid) × Each cards
+
+bytes : (l : List ℕ) → Below 256 l → (i : ℕ) → getD l i 0 < 256
+bytes [] b i = omega arith
+bytes (x ∷ l) b zero = b .0
+bytes (x ∷ l) b (suc i) = bytes l (b .1) i
+
+each-alike : (n : ℕ) (card : Card) → CidBytes (card .registers .cid) → Each (replicate n card)
+each-alike zero card h = tt
+each-alike (suc n) card h = (h, each-alike n card h)
+
+at-place : (cards : List Card) → Each cards → (place : ℕ) → place < length cards → CidBytes (getD cards place refusedMake .registers .cid)
+at-place [] e place h = absurd (omega arith)
+at-place (c ∷ cards) e zero h = e .0
+at-place (c ∷ cards) e (suc place) h = at-place cards (e .1) place (omega arith)
+
+zeros : (n : ℕ) → Below 256 (replicate n 0)
+zeros zero = tt
+zeros (suc n) = (omega arith, zeros n)
+
+two-formed : WellFormed two
+unfolding refusedMake
+two-formed =
+    let a : CidBytes (ready 1 .registers .cid) = (refl, bytes (ready 1 .registers .cid) (search arith)) in
+    let b : CidBytes (ready 0 .registers .cid) = (refl, bytes (ready 0 .registers .cid) (zeros 16)) in
+    let c : CidBytes (refusedMake .registers .cid) = (refl, bytes (replicate 16 0) (zeros 16)) in
+    (refl, at-place (two .cards) (a, (b, each-alike 28 refusedMake c)))
+
+two-unidentified : NoneIdentified two
+two-unidentified zero h = refl
+two-unidentified (suc zero) h = refl
+two-unidentified (suc (suc place)) h = absurd (omega arith)
+
+abbrev addresses : List ℕ
+addresses = 1 ∷ 2 ∷ []
+
+rounds-of : (step : Step) → Demand3 step → Rounds step two addresses
+rounds-of step d = d two addresses two-formed (omega arith) two-unidentified ((omega arith, omega arith), ((omega arith, omega arith), tt))
+
+-- there are two distinct identifiers
+two-distinct : length (identifiers two) ≡ 2
+unfolding readyOf distinct insert bits
+two-distinct = refl
+
+-- ---- a bus that does nothing
+abbrev idle : Step
+idle bus frame = record { bus = bus; shown = Silent; line = replicate 17 0 }
+
+pub idle-refuted : Demand3 idle → ⊥
+idle-refuted d =
+    let n = two-distinct in
+    let e = rounds-of idle d .shows 0 (omega arith) (omega arith) .0 in
+    let z : _≡_ {A = ℕ} 0 1 = cc in
+    omega arith
+
+-- ---- one that changes no card, whatever it shows: `says` may be ours, or know what is right
+abbrev frozen : Step → Step
+frozen says bus frame = record { bus = bus; shown = says bus frame .shown; line = says bus frame .line }
+
+-- the second card holds the smallest identifier, and is still in Ready after round 1
+pub frozen-refuted : (says : Step) → Demand3 (frozen says) → ⊥
+unfolding readyOf distinct insert bits roundsOf
+frozen-refuted says d =
+    let e : cardAt two 1 ≡ reached 1 (cardAt two 1) = rounds-of (frozen says) d .reaches 0 (omega arith) (omega arith) 1 (omega arith) (refl, refl) in
+    let state = ap (λ (c : Card). numberOf (columnOf (c .link .state))) e in
+    omega arith
+
+-- ---- one that addresses every card in round 1 and then plays along, whatever it shows
+-- CMD2 takes every card in Ready to Identification, as if each had won
+abbrev allWin : Card → Card
+allWin card = withLink card (commandOf (card .link) (metWith true card) 2 0 .link)
+
+-- a CMD2 by its first byte, 0, 1 and the index
+abbrev isCmd2 : List ℕ → Bool
+isCmd2 frame = eqb (getD frame 0 0) 0x42
+
+unfoldable pub hasty : Step → Step
+hasty says bus frame =
+    record {
+      bus = pick (isCmd2 frame) (withCards bus (map allWin (cardsOf bus))) (busFrame bus frame .bus);
+      shown = says bus frame .shown;
+      line = says bus frame .line;
+    }
+
+-- where it shows what ours would for its cards, round 1 has the right answer, and round 2 has none
+abbrev shownBy : ℕ → Shown
+shownBy k = answer (hasty busFrame) two addresses k .shown
+
+hasty-shows : (shownBy 0 ≡ Line 17) × (shownBy 1 ≡ Silent)
+unfolding hasty roundsOf refusedMake holding commandFrame sealed crc7Of remainder divide bits busFrame framingOf sentOf commandFor withCards lineOf cidLine andLine frameFrom anyReady longestOf sentBytes r1Frame r2Frame cardAfter commandAt commandOf takenOf concluded judgedOf taggingOf argumentFault resetTold obeyed awaitedBy changeOf responseOf answered wordOf classOf moveOf rowOf transferRow line contested wins together padded
+hasty-shows = (refl, refl)
+
+pub hasty-refuted : Demand3 (hasty busFrame) → ⊥
+hasty-refuted d =
+    let n = two-distinct in
+    let e : shownBy 1 ≡ Line 17 = rounds-of (hasty busFrame) d .shows 1 (omega arith) (omega arith) .0 in
+    let f = hasty-shows .1 in
+    let z : _≡_ {A = ℕ} 0 1 = cc in
+    omega arith
+
+-- and whatever it shows, the card that should be reached in round 2 has the address of round 1
+hasty-address : (says : Step) → cardAt (before (hasty says) two addresses 2) 0 .link .address ≡ 1
+unfolding hasty roundsOf refusedMake holding commandFrame sealed crc7Of remainder divide bits busFrame framingOf sentOf commandFor withCards cardAfter commandAt commandOf takenOf concluded judgedOf taggingOf argumentFault obeyed awaitedBy responseOf answered classOf moveOf rowOf
+hasty-address says = refl
+
+pub hasty-late : (says : Step) → Demand3 (hasty says) → ⊥
+unfolding readyOf distinct insert bits
+hasty-late says d =
+    let e = rounds-of (hasty says) d .reaches 1 (omega arith) (omega arith) 0 (omega arith) (refl, refl) in
+    let address : cardAt (before (hasty says) two addresses 2) 0 .link .address ≡ 2 = ap (λ (c : Card). c .link .address) e in
+    omega (arith, hasty-address says)
