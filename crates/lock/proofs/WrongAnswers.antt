@@ -13,12 +13,13 @@
 --   six-locks            byte 0 = 6
 --   cleared-leaves-bytes clear that leaves the password's bytes behind its length of 0
 -- Assumes nothing.
-use mathlib.Core.Path.{_≡_, ap}
+use mathlib.Core.Path.{_≡_, sym, ap}
 use mathlib.Core.Bool.{true, false}
 use mathlib.Core.List.{List, [], _∷_}
 use Prim.Native.Nat.{ℕ}
 use native.Mathlib.Omega.{arith}
 use lib.ListN.{getD, replicate}
+use Rattle.base.proofs.Cases.{never}
 use Rattle.lock.specs.Passwords.{stored, same, holding, noPassword, poweredOf, madeOf}
 use Rattle.lock.specs.Requests.{carried, oldOf, newOf, settable, presented, requestOf}
 use Rattle.lock.specs.declared.Answer.the-variants.{Granted, Erased, Failed}
@@ -31,9 +32,6 @@ unlocked = holding (7 ∷ 9 ∷ []) false
 abbrev locked : Lock
 locked = holding (7 ∷ 9 ∷ []) true
 
-apart : true ≡ false → ⊥
-apart e = let z : _≡_ {A = ℕ} 0 1 = cc in omega arith
-
 none-locked : noPassword .locked ≡ true → ⊥
 unfolding holding
 none-locked e = let z : _≡_ {A = ℕ} 0 1 = cc in omega arith
@@ -44,11 +42,11 @@ none-long e = omega arith
 
 powered-unlocks : poweredOf locked .locked ≡ false → ⊥
 unfolding holding poweredOf stored
-powered-unlocks e = apart e
+powered-unlocks e = never (sym e)
 
 made-unlocked : madeOf (7 ∷ 9 ∷ []) .lock .locked ≡ false → ⊥
 unfolding madeOf holding poweredOf stored
-made-unlocked e = apart e
+made-unlocked e = never (sym e)
 
 prefix-unlocks : requestOf locked (0 ∷ 1 ∷ 7 ∷ []) false .answer ≡ Granted → ⊥
 unfolding requestOf presented carried same stored holding

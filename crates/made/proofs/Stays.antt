@@ -5,15 +5,17 @@
 --   damage-made     and every damaged frame
 -- Assumes nothing.
 use mathlib.Core.Path.{_≡_, refl, ap, _∙_}
-use mathlib.Core.Bool.{Bool, true, false, not, _&&_}
+use mathlib.Core.Bool.{Bool, true, not, _&&_}
 use mathlib.Core.List.{List}
 use Prim.Native.Nat.{ℕ, _/_, _%_}
 use native.Mathlib.Omega.{arith}
 use borrow.Author.Tests.{eqb-true, eqb-false, not-true}
 use lib.Dec.{eqb, leb}
 use lib.ListN.{length}
+use Rattle.base.proofs.Cases.{guarded, last}
 use Rattle.base.specs.Refusals.{by}
 use Rattle.base.specs.declared.Refusal.{Refusal}
+use Rattle.card.proofs.Outcomes.{FrameOutcome, unheard, damaged, commands, frame-outcome, told}
 use Rattle.card.specs.Frame.{frameJudged, spares, sparedTold, frameOf}
 use Rattle.card.specs.Step.{stepOf}
 use Rattle.card.specs.declared.Call.{Call}
@@ -44,9 +46,7 @@ use Rattle.made.proofs.Blocks.{block-in-made, block-out-made}
 use Rattle.made.proofs.Commands.{link-made}
 use Rattle.made.proofs.Links.{fresh-made, errors-made, damaged-made}
 use Rattle.made.proofs.Locks.{made-made, powered-made}
-use Rattle.made.proofs.Outcomes.{FrameOutcome, refused, damaged, commands, frame-outcome}
 use Rattle.made.proofs.Pending.{set-pending}
-use Rattle.made.proofs.Walk.{judged, last}
 use Rattle.made.specs.Made.{Waits, MadeRegisters, MadeLock, Made, metBy}
 
 -- ---- commands
@@ -68,14 +68,14 @@ damage-made card made =
 
 -- ---- frames
 module _ (card : Card) (made : Made card) where
-  judged-made : {judged : FrameJudged} → FrameOutcome card judged → Made (judged .stepped .card)
-  judged-made (refused refusal) = made
-  judged-made damaged = damage-made card made
-  judged-made (commands index argument) = command-made card true index argument made
+  judged-made : (frame : List ℕ) (memory : ℕ) (map : List ℕ) {judged : FrameJudged} → FrameOutcome card frame memory map judged → Made (judged .stepped .card)
+  judged-made frame memory map (unheard n listed) = made
+  judged-made frame memory map damaged = damage-made card made
+  judged-made frame memory map (commands index argument is lent) = command-made card true index argument made
 
   -- with bit 15, where an erase spared a sector
-  told-made : (stepped : Stepped) (spared : Bool) → Made (stepped .card) → Made (sparedTold stepped spared .card)
-  told-made stepped true m =
+  spared-made : (stepped : Stepped) → Made (stepped .card) → Made (sparedTold stepped true .card)
+  spared-made stepped m =
       let next : Card = stepped .card in
       record {
         registers = m .registers;
@@ -83,13 +83,13 @@ module _ (card : Card) (made : Made card) where
         link = errors-made (next .registers .groups) (next .lock .locked) (next .link) (withBit (next .link .errors) (errorBit 15)) (m .link)
             (set-pending (next .link .errors) (errorBit 15) refl (m .link .errors));
       }
-  told-made stepped false m = m
 
   frame-made : (frame : List ℕ) (memory : ℕ) (map : List ℕ) → Made (frameOf card frame memory map .card)
   unfolding frameOf
   frame-made frame memory map =
-      told-made (frameJudged card frame memory map .stepped) (spares card memory map (frameJudged card frame memory map .change))
-      (judged-made (frame-outcome card frame memory map))
+      let stepped : Stepped = frameJudged card frame memory map .stepped in
+      let m : Made (stepped .card) = judged-made frame memory map (frame-outcome card frame memory map) in
+      told (λ (s : Stepped). Made (s .card)) stepped (spares card memory map (frameJudged card frame memory map .change)) (spared-made stepped m) m
 
 -- ---- work done and power-on
 worked-waits : (groups length : ℕ) (locked : Bool) (state : State) → Waits groups length locked state → Waits groups length locked (workedState state)
@@ -163,15 +163,15 @@ pub make-made : (cid csd : List ℕ) (ocr : ℕ) (password : List ℕ) (memory :
     → madeOf cid csd ocr password memory map .making ≡ Done → Made (madeOf cid csd ocr password memory map .card)
 unfolding madeOf
 make-made cid csd ocr password memory map =
-    judged Makes (sizeAllowed memory) (λ e. refused-makes (by 7))
+    guarded Makes (sizeAllowed memory) (λ e. refused-makes (by 7))
     (λ allowed.
-    judged Makes (mapRight map (memory / 8192)) (λ e. refused-makes (by 8))
+    guarded Makes (mapRight map (memory / 8192)) (λ e. refused-makes (by 8))
     (λ e.
-    judged Makes (registerRight cid) (λ e. refused-makes (by 9))
+    guarded Makes (registerRight cid) (λ e. refused-makes (by 9))
     (λ cid-right.
-    judged Makes (registerRight csd) (λ e. refused-makes (by 9))
+    guarded Makes (registerRight csd) (λ e. refused-makes (by 9))
     (λ csd-right.
-    judged Makes (not (eqb (window ocr) 0)) (λ e. refused-makes (by 10))
+    guarded Makes (not (eqb (window ocr) 0)) (λ e. refused-makes (by 10))
     (λ some.
     let windowed : window ocr ≡ 0 → ⊥ = eqb-false (window ocr) 0 (not-true (eqb (window ocr) 0) some) in
     password-made (record { cid = cid; csd = csd; ocr = ocr; groups = memory / 8192 })

@@ -24,12 +24,13 @@
 --   made-never             a make that refuses all
 --   refused-keeps-cid, refused-idle    a refused make that returns the CID it was given, or a card in Idle
 -- Assumes nothing.
-use mathlib.Core.Path.{_≡_, ap}
+use mathlib.Core.Path.{_≡_, sym, ap}
 use mathlib.Core.Bool.{true, false}
 use mathlib.Core.List.{List, [], _∷_, _++_}
 use Prim.Native.Nat.{ℕ}
 use native.Mathlib.Omega.{arith}
 use lib.ListN.{getD, replicate, set}
+use Rattle.base.proofs.Cases.{never}
 use Rattle.base.specs.Refusals.{by}
 use Rattle.crc.specs.Bits.{bits}
 use Rattle.crc.specs.Crc.{divide, remainder}
@@ -66,9 +67,6 @@ busy s =
 abbrev made : ℕ → List ℕ → ℕ → Made
 made ocr password memory = madeOf zeros zeros ocr password memory (0 ∷ [])
 
-apart : true ≡ false → ⊥
-apart e = let z : _≡_ {A = ℕ} 0 1 = cc in omega arith
-
 -- ---- what is read off a record
 size-in-sectors : sizeOf 1 ≡ 512 → ⊥
 size-in-sectors e = omega arith
@@ -80,7 +78,7 @@ csd-by-14 : csdProtects (set zeros 14 0x40) ≡ true → ⊥
 csd-by-14 e = let z : _≡_ {A = ℕ} 0 1 = cc in omega arith
 
 csd-permanent-alone : csdProtects (set zeros 14 0x10) ≡ false → ⊥
-csd-permanent-alone e = apart e
+csd-permanent-alone e = never (sym e)
 
 csd-lowest-first : csdProtects (set zeros 1 0x20) ≡ true → ⊥
 csd-lowest-first e = let z : _≡_ {A = ℕ} 0 1 = cc in omega arith
@@ -89,7 +87,7 @@ crosses-at-end : crosses 1536 512 ≡ true → ⊥
 crosses-at-end e = let z : _≡_ {A = ℕ} 0 1 = cc in omega arith
 
 crosses-unseen : crosses 1537 512 ≡ false → ⊥
-crosses-unseen e = apart e
+crosses-unseen e = never (sym e)
 
 length-zero : lengthRead 0 ≡ 0 → ⊥
 length-zero e = omega arith
@@ -116,7 +114,7 @@ powered-keeps-tags e = let z : _≡_ {A = ℕ} 0 1 = cc in omega arith
 
 powered-unlocked : poweredOn (busy Tran) .lock .locked ≡ false → ⊥
 unfolding poweredOn poweredOf stored holding
-powered-unlocked e = apart e
+powered-unlocked e = never (sym e)
 
 powered-inactive : poweredOn (busy Ina) .link .state ≡ Ina → ⊥
 unfolding poweredOn freshLink
@@ -157,7 +155,7 @@ made-csd-unread e = let z : _≡_ {A = ℕ} 0 1 = cc in omega arith
 
 made-unlocked : made 0x00FF8000 (7 ∷ 9 ∷ []) 8192 .card .lock .locked ≡ false → ⊥
 unfolding madeOf passwordMade lockMadeOf poweredOf stored holding entriesRight registerRight lastByte crc7Of remainder divide bits
-made-unlocked e = apart e
+made-unlocked e = never (sym e)
 
 made-never : made 0x00FF8000 [] 8192 .making ≡ Refused (by 7) → ⊥
 unfolding madeOf passwordMade lockMadeOf entriesRight registerRight lastByte crc7Of remainder divide bits

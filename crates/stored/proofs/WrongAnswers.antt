@@ -20,6 +20,7 @@ use mathlib.Core.Logic.{_⊎_, inl, inr}
 use Prim.Native.Nat.{ℕ}
 use native.Mathlib.Omega.{arith}
 use lib.ListN.{length, getD, replicate}
+use Rattle.base.proofs.Cases.{opposite}
 use Rattle.base.specs.declared.Refusal.{Refusal}
 use Rattle.card.specs.BlockIn.{blockGood, writeJudged, requestJudged, awaitedJudged, blockJudged, keptOf}
 use Rattle.card.specs.Frame.{frameJudged}
@@ -59,7 +60,6 @@ use Rattle.wire.specs.declared.Frame.the-variants.{Command}
 use Rattle.stored.specs.Changes.{SetBy, GrantedWrite, Cause, written, erased as by-tag, forced, MapCause, set}
 use Rattle.stored.specs.Locked.{UnlockGranted, Unlocking, none-stored, unlocked}
 use Rattle.stored.specs.Locked.{forced as by-force}
-use Rattle.stored.proofs.Protected.{opposite}
 
 module _ (card : Card) (input : List ℕ) (memory : ℕ) (map : List ℕ) where
   -- a byte changes at a frame or at a block in, and at no other call

@@ -1,6 +1,7 @@
 -- Theorems of data blocks, over the definitions that the contracts of `write_block` and `check_block` name.
 --   check-after-write   what is written checks, with the length of its payload; check-back, from the front of an output
 --   write-after-check   any block that checks is the one that the writer gives for its payload
+--   Good, good          what is known of a block that checks
 --   flip-refused        any one flipped bit of a good block is refused 17
 -- Assumes nothing.
 use mathlib.Core.Path.{_≡_, refl, sym, ap, ap₂, _∙_, subst}
@@ -45,7 +46,7 @@ pub record Good (b : List ℕ) (n : ℕ) : Type 0 where
   pub crc : told b ≡ crc16 (carried b)
   pub long : length b - 2 ≡ n
 
-good : (b : List ℕ) (n : ℕ) → checkedOf b ≡ Payload n → Good b n
+pub good : (b : List ℕ) (n : ℕ) → checkedOf b ≡ Payload n → Good b n
 unfolding checkedOf
 good b n e =
     let t0 = passed (leb 3 (length b)) (Refused (by 5)) _ (Payload n) (no-refusal (by 5) n) e in

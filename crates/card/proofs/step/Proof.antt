@@ -1,14 +1,6 @@
 use borrow.Author.Needs.{needs}
 use Rattle.card.proofs.step.Statement.{statement}
 use Rattle.card.proofs.step.Tie as tie
-use Rattle.card.proofs.step.Reads as reads
-use Rattle.card.proofs.step.Lts as lts
-use Rattle.card.proofs.blocks_in.block_in.Reads as block-in-reads
-use Rattle.card.proofs.blocks_out.block_out.Reads as block-out-reads
-use Rattle.card.proofs.frames.frame.Reads as frame-reads
-use Rattle.card.proofs.replies.done.Reads as done-reads
-use Rattle.record.proofs.power_on.Reads as power-on-reads
-use Rattle.record.proofs.work_done.Reads as work-done-reads
 
 -- src/lib.rt:102:43
 enum-told : tie.Need-enum-told

@@ -2,13 +2,14 @@
 -- Assumes nothing.
 use mathlib.Core.Path.{_≡_, sym, _∙_}
 use mathlib.Core.Bool.{Bool, true, false, not, _&&_}
-use Prim.Native.Nat.{ℕ, _/_, _≤_}
+use Prim.Native.Nat.{ℕ, _/_, _%_, _≤_}
 use native.Mathlib.Omega.{arith}
 use borrow.Author.Needs.{needs}
 use borrow.Author.Tests.{leb-true, eq-eqb, ne-eqb, not-true, not-false}
 use denote.Ref.{now}
-use lib.Dec.{leb}
+use lib.Dec.{eqb, leb}
 use lib.ListN.{length}
+use Rattle.base.proofs.Cases.{first, last}
 use Rattle.store.specs.Map.{mapRight}
 use Rattle.store.specs.Memory.{sizeAllowed}
 use Rattle.wire.specs.Responses.{registerRight}
@@ -23,14 +24,9 @@ wrong told e t = sym e ∙ not-true told t
 right : {test : Bool} (told : Bool) → told ≡ test → not told ≡ false → test ≡ true
 right told e t = sym e ∙ not-false told t
 
-second : (a b c : Bool) → (a && b && c) ≡ true → b ≡ true
-second true true c e = cc
-second true false c e = e
-second false b c e = let z : _≡_ {A = ℕ} 0 1 = cc in absurd (omega arith)
-
 -- so an allowed size has at most 4,096 groups, a number that fits 16 bits
 few : (bytes : ℕ) → sizeAllowed bytes ≡ true → bytes ≤ 33554432
-few bytes e = leb-true bytes 33554432 (second (leb 8192 bytes) (leb bytes 33554432) _ e)
+few bytes e = leb-true bytes 33554432 (last (leb 8192 bytes) (leb bytes 33554432) (first (leb 8192 bytes && leb bytes 33554432) (eqb (bytes % 8192) 0) e))
 
 -- what is known behind each check
 abbrev begun : tie.Else1 → tie.Start

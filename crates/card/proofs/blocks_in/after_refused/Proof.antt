@@ -1,8 +1,6 @@
 use borrow.Author.Needs.{needs}
 use Rattle.card.proofs.blocks_in.after_refused.Statement.{statement}
 use Rattle.card.proofs.blocks_in.after_refused.Tie as tie
-use Rattle.card.proofs.blocks_in.after_refused.Reads as reads
-use Rattle.card.proofs.blocks_in.after_refused.Lts as lts
 
 -- src/blocks_in.rt:37:29
 enum-told : tie.Need-enum-told

@@ -1,8 +1,6 @@
 use borrow.Author.Needs.{needs}
 use Rattle.card.proofs.blocks_in.after_stored.Statement.{statement}
 use Rattle.card.proofs.blocks_in.after_stored.Tie as tie
-use Rattle.card.proofs.blocks_in.after_stored.Reads as reads
-use Rattle.card.proofs.blocks_in.after_stored.Lts as lts
 
 -- src/blocks_in.rt:48:29
 enum-told : tie.Need-enum-told

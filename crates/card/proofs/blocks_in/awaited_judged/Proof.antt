@@ -1,53 +1,34 @@
-use native.Mathlib.Nat.{sub-zero}
-use Prim.Native.Nat.{_-_}
-use borrow.Author.Tests.{le-leb}
-use lib.Dec.{eqb}
-use lib.ListN.{take}
-use Rattle.base.proofs.Cases.{passed}
-use Rattle.base.specs.Refusals.{by}
-use Rattle.base.specs.declared.Refusal.{Refusal}
-use Rattle.card.specs.BlockIn.{carriedOut}
-use Rattle.crc.specs.Crc.{crc16}
-use Rattle.wire.specs.Blocks.{longest, told, carried, checkedOf}
-use Rattle.wire.specs.declared.Checked.{Checked}
-use Rattle.wire.specs.declared.Checked.the-variants.{Payload, Refused}
 use mathlib.Core.Path.{_≡_, ap, sym, _∙_}
-use mathlib.Core.Bool.{Bool, true, false}
+use mathlib.Core.Bool.{true, false}
 use mathlib.Core.List.{List}
-use Prim.Native.Nat.{ℕ, _+_, _≤_}
+use Prim.Native.Nat.{ℕ, _+_, _-_, _≤_}
 use native.Mathlib.Omega.{arith}
-use borrow.Author.Tests.{leb-true}
+use borrow.Author.Needs.{needs}
+use borrow.Author.Tests.{le-leb, leb-true, eq-eqb, ne-eqb}
 use denote.Ref.{now}
-use lib.Dec.{leb}
-use lib.ListN.{length}
+use lib.Dec.{eqb, leb}
+use lib.ListN.{take, length}
+use Rattle.base.specs.declared.Refusal.{Refusal}
 use Rattle.base.proofs.Cases.{cases}
-use Rattle.card.specs.BlockIn.{awaitedLength}
+use Rattle.crc.specs.Crc.{crc16}
 use Rattle.record.specs.Record.{lengthRead}
 use Rattle.record.specs.declared.Card.{Card}
 use Rattle.states.specs.declared.Incoming.{Incoming}
 use Rattle.states.specs.declared.Incoming.the-variants.{One, Many, LockRequest}
-use borrow.Author.Tests.{eq-eqb, ne-eqb}
-use Rattle.card.specs.BlockIn.{awaitedJudged}
-use borrow.Author.Needs.{needs}
+use Rattle.wire.specs.Blocks.{told, carried, checkedOf}
+use Rattle.wire.specs.declared.Checked.{Checked}
+use Rattle.wire.specs.declared.Checked.the-variants.{Payload, Refused}
+use Rattle.wire.proofs.BlockTheorems.{good}
+use Rattle.card.specs.BlockIn.{carriedOut, awaitedLength, awaitedJudged}
 use Rattle.card.proofs.blocks_in.awaited_judged.Statement.{statement}
 use Rattle.card.proofs.blocks_in.awaited_judged.Tie as tie
-use Rattle.card.proofs.blocks_in.awaited_judged.Reads as reads
-use Rattle.card.proofs.blocks_in.awaited_judged.Lts as lts
-use Rattle.card.proofs.blocks_in.awaited_length.Reads as awaited-length-reads
-use Rattle.card.proofs.blocks_in.block_refused.Reads as block-refused-reads
-use Rattle.card.proofs.blocks_in.carried_out.Reads as carried-out-reads
-use Rattle.wire.proofs.check_block.Reads as check-block-reads
 
 no-refusal : (r : Refusal) (n : ℕ) → _≡_ {A = Checked} (Refused r) (Payload n) → ⊥
 no-refusal r n e = let z : _≡_ {A = ℕ} 0 1 = cc in omega arith
 
 -- a block that checks has the right CRC16
 crc-right : (b : List ℕ) {n : ℕ} → checkedOf b ≡ Payload n → eqb (told b) (crc16 (carried b)) ≡ true
-unfolding checkedOf
-crc-right b {n} e =
-    let t0 = passed (leb 3 (length b)) (Refused (by 5)) _ (Payload n) (no-refusal (by 5) n) e in
-    let t1 = passed (leb (length b) (longest + 2)) (Refused (by 5)) _ (Payload n) (no-refusal (by 5) n) (t0 .1) in
-    passed (eqb (told b) (crc16 (carried b))) (Refused (by 17)) _ (Payload n) (no-refusal (by 17) n) (t1 .1) .0
+crc-right b {n} e = eq-eqb (told b) (crc16 (carried b)) (good b n e .crc)
 
 -- one of a block's length that does not check has a wrong one: it is refused by 17 alone
 crc-wrong : (b : List ℕ) {r : Refusal} → 3 ≤ length b → length b ≤ 2050 → checkedOf b ≡ Refused r → eqb (told b) (crc16 (carried b)) ≡ false

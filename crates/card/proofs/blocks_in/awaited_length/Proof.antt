@@ -1,9 +1,6 @@
 use borrow.Author.Needs.{needs}
 use Rattle.card.proofs.blocks_in.awaited_length.Statement.{statement}
 use Rattle.card.proofs.blocks_in.awaited_length.Tie as tie
-use Rattle.card.proofs.blocks_in.awaited_length.Reads as reads
-use Rattle.card.proofs.blocks_in.awaited_length.Lts as lts
-use Rattle.record.proofs.read_length.Reads as read-length-reads
 
 -- src/blocks_in.rt:27:29
 enum-told : tie.Need-enum-told

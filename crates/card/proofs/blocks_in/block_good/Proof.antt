@@ -2,9 +2,6 @@ use Rattle.card.specs.BlockIn.{blockGood}
 use borrow.Author.Needs.{needs}
 use Rattle.card.proofs.blocks_in.block_good.Statement.{statement}
 use Rattle.card.proofs.blocks_in.block_good.Tie as tie
-use Rattle.card.proofs.blocks_in.block_good.Reads as reads
-use Rattle.card.proofs.blocks_in.block_good.Lts as lts
-use Rattle.card.proofs.replies.done.Reads as done-reads
 
 -- src/blocks_in.rt:93:18
 done-requires : tie.Need-done-requires

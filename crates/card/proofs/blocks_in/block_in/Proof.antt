@@ -7,11 +7,6 @@ use Rattle.card.specs.declared.BlockJudged.{BlockJudged}
 use borrow.Author.Needs.{needs}
 use Rattle.card.proofs.blocks_in.block_in.Statement.{statement}
 use Rattle.card.proofs.blocks_in.block_in.Tie as tie
-use Rattle.card.proofs.blocks_in.block_in.Reads as reads
-use Rattle.card.proofs.blocks_in.block_in.Lts as lts
-use Rattle.card.proofs.blocks_in.judge.Reads as judge-reads
-use Rattle.card.proofs.blocks_in.kept.Reads as kept-reads
-use Rattle.card.proofs.blocks_in.store.Reads as store-reads
 
 -- src/blocks_in.rt:259:9
 judge-requires : tie.Need-judge-requires

@@ -2,11 +2,6 @@ use Rattle.card.specs.BlockIn.{blockRefused}
 use borrow.Author.Needs.{needs}
 use Rattle.card.proofs.blocks_in.block_refused.Statement.{statement}
 use Rattle.card.proofs.blocks_in.block_refused.Tie as tie
-use Rattle.card.proofs.blocks_in.block_refused.Reads as reads
-use Rattle.card.proofs.blocks_in.block_refused.Lts as lts
-use Rattle.card.proofs.blocks_in.after_refused.Reads as after-refused-reads
-use Rattle.card.proofs.blocks_in.with_fault.Reads as with-fault-reads
-use Rattle.card.proofs.replies.refuse.Reads as refuse-reads
 
 -- src/blocks_in.rt:68:9
 after-refused-requires : tie.Need-after-refused-requires

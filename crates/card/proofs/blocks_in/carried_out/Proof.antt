@@ -1,10 +1,6 @@
 use borrow.Author.Needs.{needs}
 use Rattle.card.proofs.blocks_in.carried_out.Statement.{statement}
 use Rattle.card.proofs.blocks_in.carried_out.Tie as tie
-use Rattle.card.proofs.blocks_in.carried_out.Reads as reads
-use Rattle.card.proofs.blocks_in.carried_out.Lts as lts
-use Rattle.card.proofs.blocks_in.lock_judged.Reads as lock-judged-reads
-use Rattle.card.proofs.blocks_in.write_judged.Reads as write-judged-reads
 
 -- src/blocks_in.rt:157:23
 enum-known-incoming : tie.Need-enum-known-incoming

@@ -4,11 +4,6 @@ use Rattle.card.specs.BlockIn.{blockJudged}
 use borrow.Author.Needs.{needs}
 use Rattle.card.proofs.blocks_in.judge.Statement.{statement}
 use Rattle.card.proofs.blocks_in.judge.Tie as tie
-use Rattle.card.proofs.blocks_in.judge.Reads as reads
-use Rattle.card.proofs.blocks_in.judge.Lts as lts
-use Rattle.card.proofs.blocks_in.state_judged.Reads as state-judged-reads
-use Rattle.card.proofs.blocks_in.unread.Reads as unread-reads
-use Rattle.store.proofs.lent_right.Reads as lent-right-reads
 
 -- src/blocks_in.rt:214:40
 cast-lent-right : tie.Need-cast-lent-right

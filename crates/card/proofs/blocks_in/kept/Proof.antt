@@ -1,21 +1,15 @@
-use mathlib.Core.Path.{ap₂}
-use lib.ListN.{getD, set, length-replicate, replicate-append-replicate}
+use mathlib.Core.Path.{ap₂, _≡_, refl, ap, sym, _∙_}
+use lib.ListN.{getD, set, length-replicate, replicate-append-replicate, length, take, drop, replicate}
 use lib.Seq.{take-all, drop-at}
 use Rattle.base.proofs.Copy.{copy-turn}
-use mathlib.Core.Path.{_≡_, refl, ap, sym, _∙_}
 use mathlib.Core.List.{List, _++_}
 use Prim.Native.Nat.{ℕ, _+_, _-_, _≤_}
 use native.Mathlib.Omega.{arith}
 use borrow.Author.Needs.{needs}
 use denote.Ref.{now}
-use lib.ListN.{length, take, drop, replicate}
-use mathlib.Core.Path.{refl}
-use borrow.Author.Tests.{le-leb}
 use Rattle.card.specs.BlockIn.{keptOf}
 use Rattle.card.proofs.blocks_in.kept.Statement.{statement}
 use Rattle.card.proofs.blocks_in.kept.Tie as tie
-use Rattle.card.proofs.blocks_in.kept.Reads as reads
-use Rattle.card.proofs.blocks_in.kept.Lts as lts
 
 -- the array that the copy begins with
 unfoldable zeros : List ℕ

@@ -3,22 +3,15 @@ use mathlib.Core.Bool.{Bool}
 use mathlib.Core.List.{List}
 use Prim.Native.Nat.{ℕ}
 use denote.Ref.{now}
-use Rattle.card.specs.BlockIn.{lockJudged}
+use Rattle.card.specs.BlockIn.{lockJudged, requestJudged}
 use Rattle.lock.specs.Requests.{requestOf}
 use Rattle.lock.specs.declared.Answer.{Answer}
 use Rattle.lock.specs.declared.Requested.{Requested}
 use Rattle.record.specs.Record.{csdProtects}
 use Rattle.record.specs.declared.Card.{Card}
-use Rattle.card.specs.BlockIn.{requestJudged}
 use borrow.Author.Needs.{needs}
 use Rattle.card.proofs.blocks_in.lock_judged.Statement.{statement}
 use Rattle.card.proofs.blocks_in.lock_judged.Tie as tie
-use Rattle.card.proofs.blocks_in.lock_judged.Reads as reads
-use Rattle.card.proofs.blocks_in.lock_judged.Lts as lts
-use Rattle.card.proofs.blocks_in.block_good.Reads as block-good-reads
-use Rattle.card.proofs.blocks_in.block_refused.Reads as block-refused-reads
-use Rattle.lock.proofs.request.Reads as request-reads
-use Rattle.record.proofs.csd_protects.Reads as csd-protects-reads
 
 -- what follows from an answer that is known
 answered : (card : Card) (payload : List ℕ) (given : Requested) {whole : Bool} {answer : Answer} → given ≡ requestOf (card .lock) payload whole

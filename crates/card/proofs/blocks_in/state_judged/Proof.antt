@@ -1,10 +1,6 @@
 use borrow.Author.Needs.{needs}
 use Rattle.card.proofs.blocks_in.state_judged.Statement.{statement}
 use Rattle.card.proofs.blocks_in.state_judged.Tie as tie
-use Rattle.card.proofs.blocks_in.state_judged.Reads as reads
-use Rattle.card.proofs.blocks_in.state_judged.Lts as lts
-use Rattle.card.proofs.blocks_in.awaited_judged.Reads as awaited-judged-reads
-use Rattle.card.proofs.blocks_in.unread.Reads as unread-reads
 
 -- src/blocks_in.rt:197:37
 enum-told : tie.Need-enum-told

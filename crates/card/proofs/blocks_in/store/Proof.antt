@@ -1,11 +1,6 @@
 use borrow.Author.Needs.{needs}
 use Rattle.card.proofs.blocks_in.store.Statement.{statement}
 use Rattle.card.proofs.blocks_in.store.Tie as tie
-use Rattle.card.proofs.blocks_in.store.Reads as reads
-use Rattle.card.proofs.blocks_in.store.Lts as lts
-use Rattle.store.proofs.clear_map.Reads as clear-map-reads
-use Rattle.store.proofs.fill_all.Reads as fill-all-reads
-use Rattle.store.proofs.write_sector.Reads as write-sector-reads
 
 enum-told : tie.Need-enum-told
 enum-told c = search needs

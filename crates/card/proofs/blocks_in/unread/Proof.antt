@@ -1,9 +1,6 @@
 use borrow.Author.Needs.{needs}
 use Rattle.card.proofs.blocks_in.unread.Statement.{statement}
 use Rattle.card.proofs.blocks_in.unread.Tie as tie
-use Rattle.card.proofs.blocks_in.unread.Reads as reads
-use Rattle.card.proofs.blocks_in.unread.Lts as lts
-use Rattle.card.proofs.replies.refuse.Reads as refuse-reads
 
 -- src/blocks_in.rt:187:18
 refuse-requires : tie.Need-refuse-requires

@@ -1,9 +1,6 @@
 use borrow.Author.Needs.{needs}
 use Rattle.card.proofs.blocks_in.with_fault.Statement.{statement}
 use Rattle.card.proofs.blocks_in.with_fault.Tie as tie
-use Rattle.card.proofs.blocks_in.with_fault.Reads as reads
-use Rattle.card.proofs.blocks_in.with_fault.Lts as lts
-use Rattle.status.proofs.set.Reads as set-reads
 
 -- src/blocks_in.rt:58:24
 enum-told : tie.Need-enum-told

@@ -5,22 +5,12 @@ use Prim.Native.Nat.{ℕ, _/_, _≤_, _<_}
 use native.Mathlib.Omega.{arith}
 use borrow.Author.Tests.{le-ltb, lt-ltb}
 use denote.Ref.{now}
-use Rattle.record.specs.Record.{sizeOf, csdProtects}
+use Rattle.record.specs.Record.{sizeOf}
 use Rattle.store.specs.Map.{protectedIn}
-use mathlib.Core.Path.{sym, _∙_}
-use borrow.Author.Tests.{le-leb, lt-leb}
 use Rattle.card.specs.BlockIn.{writeJudged}
 use borrow.Author.Needs.{needs}
 use Rattle.card.proofs.blocks_in.write_judged.Statement.{statement}
 use Rattle.card.proofs.blocks_in.write_judged.Tie as tie
-use Rattle.card.proofs.blocks_in.write_judged.Reads as reads
-use Rattle.card.proofs.blocks_in.write_judged.Lts as lts
-use Rattle.card.proofs.blocks_in.after_stored.Reads as after-stored-reads
-use Rattle.card.proofs.blocks_in.block_good.Reads as block-good-reads
-use Rattle.card.proofs.blocks_in.block_refused.Reads as block-refused-reads
-use Rattle.record.proofs.csd_protects.Reads as csd-protects-reads
-use Rattle.record.proofs.size.Reads as size-reads
-use Rattle.store.proofs.protected.Reads as protected-reads
 
 -- what `protected` told, of the CSD's own answer
 guarded : (map : List ℕ) (sector : ℕ) {whole told said : Bool} → whole ≡ said → told ≡ protectedIn map whole sector → protectedIn map said sector ≡ told

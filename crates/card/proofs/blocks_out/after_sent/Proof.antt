@@ -1,8 +1,6 @@
 use borrow.Author.Needs.{needs}
 use Rattle.card.proofs.blocks_out.after_sent.Statement.{statement}
 use Rattle.card.proofs.blocks_out.after_sent.Tie as tie
-use Rattle.card.proofs.blocks_out.after_sent.Reads as reads
-use Rattle.card.proofs.blocks_out.after_sent.Lts as lts
 
 -- src/blocks_out.rt:69:29
 enum-told : tie.Need-enum-told

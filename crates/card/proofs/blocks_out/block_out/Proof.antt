@@ -2,10 +2,6 @@ use Rattle.card.specs.BlockOut.{outJudged}
 use borrow.Author.Needs.{needs}
 use Rattle.card.proofs.blocks_out.block_out.Statement.{statement}
 use Rattle.card.proofs.blocks_out.block_out.Tie as tie
-use Rattle.card.proofs.blocks_out.block_out.Reads as reads
-use Rattle.card.proofs.blocks_out.block_out.Lts as lts
-use Rattle.card.proofs.blocks_out.judge.Reads as judge-reads
-use Rattle.card.proofs.blocks_out.send.Reads as send-reads
 
 -- src/blocks_out.rt:198:9
 judge-requires : tie.Need-judge-requires

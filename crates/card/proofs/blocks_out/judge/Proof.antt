@@ -4,11 +4,6 @@ use Rattle.card.specs.BlockOut.{outJudged}
 use borrow.Author.Needs.{needs}
 use Rattle.card.proofs.blocks_out.judge.Statement.{statement}
 use Rattle.card.proofs.blocks_out.judge.Tie as tie
-use Rattle.card.proofs.blocks_out.judge.Reads as reads
-use Rattle.card.proofs.blocks_out.judge.Lts as lts
-use Rattle.card.proofs.blocks_out.state_sends.Reads as state-sends-reads
-use Rattle.card.proofs.blocks_out.unsent.Reads as unsent-reads
-use Rattle.store.proofs.lent_right.Reads as lent-right-reads
 
 -- src/blocks_out.rt:140:40
 cast-lent-right : tie.Need-cast-lent-right

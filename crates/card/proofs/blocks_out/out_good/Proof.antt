@@ -3,8 +3,6 @@ use Rattle.card.specs.BlockOut.{outGood}
 use borrow.Author.Needs.{needs}
 use Rattle.card.proofs.blocks_out.out_good.Statement.{statement}
 use Rattle.card.proofs.blocks_out.out_good.Tie as tie
-use Rattle.card.proofs.blocks_out.out_good.Reads as reads
-use Rattle.card.proofs.blocks_out.out_good.Lts as lts
 
 -- src/blocks_out.rt:56:41
 add-t15 : tie.Need-add-t15

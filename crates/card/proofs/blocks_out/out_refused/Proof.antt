@@ -2,10 +2,6 @@ use Rattle.card.specs.BlockOut.{outRefused}
 use borrow.Author.Needs.{needs}
 use Rattle.card.proofs.blocks_out.out_refused.Statement.{statement}
 use Rattle.card.proofs.blocks_out.out_refused.Tie as tie
-use Rattle.card.proofs.blocks_out.out_refused.Reads as reads
-use Rattle.card.proofs.blocks_out.out_refused.Lts as lts
-use Rattle.card.proofs.blocks_out.unsent.Reads as unsent-reads
-use Rattle.status.proofs.set.Reads as set-reads
 
 -- src/blocks_out.rt:36:25
 set-requires : tie.Need-set-requires

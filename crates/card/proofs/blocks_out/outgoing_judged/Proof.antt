@@ -1,11 +1,6 @@
 use borrow.Author.Needs.{needs}
 use Rattle.card.proofs.blocks_out.outgoing_judged.Statement.{statement}
 use Rattle.card.proofs.blocks_out.outgoing_judged.Tie as tie
-use Rattle.card.proofs.blocks_out.outgoing_judged.Reads as reads
-use Rattle.card.proofs.blocks_out.outgoing_judged.Lts as lts
-use Rattle.card.proofs.blocks_out.part_judged.Reads as part-judged-reads
-use Rattle.card.proofs.blocks_out.protection_judged.Reads as protection-judged-reads
-use Rattle.record.proofs.read_length.Reads as read-length-reads
 
 -- src/blocks_out.rt:110:9
 read-length-requires : tie.Need-read-length-requires

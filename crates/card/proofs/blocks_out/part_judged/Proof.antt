@@ -3,19 +3,10 @@ use native.Mathlib.Omega.{arith}
 use borrow.Author.Tests.{le-leb, lt-leb}
 use Rattle.record.specs.Record.{sizeOf}
 use mathlib.Core.Path.{sym, _∙_}
-use borrow.Author.Tests.{le-ltb, lt-ltb}
 use Rattle.card.specs.BlockOut.{partJudged}
 use borrow.Author.Needs.{needs}
 use Rattle.card.proofs.blocks_out.part_judged.Statement.{statement}
 use Rattle.card.proofs.blocks_out.part_judged.Tie as tie
-use Rattle.card.proofs.blocks_out.part_judged.Reads as reads
-use Rattle.card.proofs.blocks_out.part_judged.Lts as lts
-use Rattle.card.proofs.blocks_out.after_sent.Reads as after-sent-reads
-use Rattle.card.proofs.blocks_out.out_good.Reads as out-good-reads
-use Rattle.card.proofs.blocks_out.out_refused.Reads as out-refused-reads
-use Rattle.card.proofs.blocks_out.unsent.Reads as unsent-reads
-use Rattle.record.proofs.crosses.Reads as crosses-reads
-use Rattle.record.proofs.size.Reads as size-reads
 
 -- src/blocks_out.rt:79:15
 add-if1 : tie.Need-add-if1

@@ -1,13 +1,8 @@
 use borrow.Author.Tests.{le-leb, lt-leb}
-use borrow.Author.Tests.{le-ltb, lt-ltb}
 use Rattle.card.specs.BlockOut.{protectionJudged}
 use borrow.Author.Needs.{needs}
 use Rattle.card.proofs.blocks_out.protection_judged.Statement.{statement}
 use Rattle.card.proofs.blocks_out.protection_judged.Tie as tie
-use Rattle.card.proofs.blocks_out.protection_judged.Reads as reads
-use Rattle.card.proofs.blocks_out.protection_judged.Lts as lts
-use Rattle.card.proofs.blocks_out.out_good.Reads as out-good-reads
-use Rattle.card.proofs.blocks_out.unsent.Reads as unsent-reads
 
 -- src/blocks_out.rt:102:9
 unsent-requires : tie.Need-unsent-requires

@@ -1,10 +1,6 @@
 use borrow.Author.Needs.{needs}
 use Rattle.card.proofs.blocks_out.send.Statement.{statement}
 use Rattle.card.proofs.blocks_out.send.Tie as tie
-use Rattle.card.proofs.blocks_out.send.Reads as reads
-use Rattle.card.proofs.blocks_out.send.Lts as lts
-use Rattle.card.proofs.blocks_out.send_part.Reads as send-part-reads
-use Rattle.card.proofs.blocks_out.send_protection.Reads as send-protection-reads
 
 enum-told : tie.Need-enum-told
 enum-told c = search needs

@@ -1,4 +1,4 @@
-use mathlib.Core.Path.{_≡_, refl, sym, ap, ap₂, _∙_}
+use mathlib.Core.Path.{_≡_, sym, ap, ap₂, _∙_}
 use mathlib.Core.Bool.{true, false}
 use mathlib.Core.List.{List, [], _∷_, _++_}
 use Prim.Native.Nat.{ℕ, _+_, _-_, _/_, _%_, _≤_, _<_}
@@ -12,16 +12,10 @@ use lib.Seq.{sets-eq, take-at, drop-append-add, drop-drop, length-front, length-
 use Rattle.crc.specs.Crc.{crc16}
 use Rattle.store.specs.Memory.{inside, partOf, partRead}
 use Rattle.wire.specs.Blocks.{blockOf}
-use mathlib.Core.Path.{sym, _∙_}
-use borrow.Author.Tests.{le-ltb, lt-ltb}
 use Rattle.card.specs.BlockOut.{partSent}
 use borrow.Author.Needs.{needs}
 use Rattle.card.proofs.blocks_out.send_part.Statement.{statement}
 use Rattle.card.proofs.blocks_out.send_part.Tie as tie
-use Rattle.card.proofs.blocks_out.send_part.Reads as reads
-use Rattle.card.proofs.blocks_out.send_part.Lts as lts
-use Rattle.crc.proofs.crc16.Reads as crc16-reads
-use Rattle.store.proofs.read_part.Reads as read-part-reads
 
 -- p is the payload, o the output at entry and l with the payload at its front, s the sum
 stored : (p o l : List ℕ) (n s : ℕ) → length p ≡ n → n + 2 ≤ length o → l ≡ p ++ drop n o → s ≡ crc16 p

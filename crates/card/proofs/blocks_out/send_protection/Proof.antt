@@ -5,20 +5,15 @@ use native.Mathlib.Omega.{arith}
 use denote.Ref.{now}
 use Rattle.base.specs.Output.{laid}
 use Rattle.base.specs.declared.Written.{Written}
-use Rattle.card.specs.BlockOut.{protectionBytes}
+use Rattle.card.specs.BlockOut.{protectionBytes, protectionSent}
 use Rattle.crc.specs.Bits.{bitsOf, octets}
 use Rattle.crc.proofs.Bits.{octets-bits}
 use Rattle.store.specs.Map.{protectionBits}
 use Rattle.wire.specs.Blocks.{blockOf, blockWritten}
 use Rattle.wire.proofs.InBytes.{bytes4, word-bits}
-use Rattle.card.specs.BlockOut.{protectionSent}
 use borrow.Author.Needs.{needs}
 use Rattle.card.proofs.blocks_out.send_protection.Statement.{statement}
 use Rattle.card.proofs.blocks_out.send_protection.Tie as tie
-use Rattle.card.proofs.blocks_out.send_protection.Reads as reads
-use Rattle.card.proofs.blocks_out.send_protection.Lts as lts
-use Rattle.store.proofs.protection_bits.Reads as protection-bits-reads
-use Rattle.wire.proofs.write_block.Reads as write-block-reads
 
 -- the four bytes of 32 bits, highest first
 four : (map : List ℕ) (group n : ℕ) → n < 2 ^ 32 → n ≡ protectionBits map group → bytes4 n ≡ protectionBytes map group

@@ -1,10 +1,6 @@
 use borrow.Author.Needs.{needs}
 use Rattle.card.proofs.blocks_out.state_sends.Statement.{statement}
 use Rattle.card.proofs.blocks_out.state_sends.Tie as tie
-use Rattle.card.proofs.blocks_out.state_sends.Reads as reads
-use Rattle.card.proofs.blocks_out.state_sends.Lts as lts
-use Rattle.card.proofs.blocks_out.outgoing_judged.Reads as outgoing-judged-reads
-use Rattle.card.proofs.blocks_out.unsent.Reads as unsent-reads
 
 -- src/blocks_out.rt:123:37
 enum-told : tie.Need-enum-told

@@ -1,9 +1,6 @@
 use borrow.Author.Needs.{needs}
 use Rattle.card.proofs.blocks_out.unsent.Statement.{statement}
 use Rattle.card.proofs.blocks_out.unsent.Tie as tie
-use Rattle.card.proofs.blocks_out.unsent.Reads as reads
-use Rattle.card.proofs.blocks_out.unsent.Lts as lts
-use Rattle.card.proofs.replies.refuse.Reads as refuse-reads
 
 -- src/blocks_out.rt:23:18
 refuse-requires : tie.Need-refuse-requires

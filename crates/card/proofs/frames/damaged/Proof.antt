@@ -1,9 +1,6 @@
 use borrow.Author.Needs.{needs}
 use Rattle.card.proofs.frames.damaged.Statement.{statement}
 use Rattle.card.proofs.frames.damaged.Tie as tie
-use Rattle.card.proofs.frames.damaged.Reads as reads
-use Rattle.card.proofs.frames.damaged.Lts as lts
-use Rattle.command.proofs.damaged.Reads as damaged-reads
 
 -- src/frames.rt:61:15
 damaged-requires : tie.Need-damaged-requires

@@ -4,23 +4,14 @@ use mathlib.Core.List.{List}
 use Prim.Native.Nat.{ℕ}
 use denote.Ref.{now}
 use lib.ListN.{length}
-use Rattle.card.specs.Frame.{spares, sparedTold, erasedBy, protectedBy}
+use Rattle.card.specs.Frame.{spares, sparedTold, erasedBy, protectedBy, frameJudged, frameOf}
 use Rattle.card.specs.declared.FrameJudged.{FrameJudged}
 use Rattle.command.specs.declared.Change.{Change}
 use Rattle.record.specs.declared.Card.{Card}
 use Rattle.store.specs.Erase.{erased, anySpared}
-use Rattle.card.specs.Frame.{frameJudged}
-use Rattle.card.specs.Frame.{frameOf}
 use borrow.Author.Needs.{needs}
 use Rattle.card.proofs.frames.frame.Statement.{statement}
 use Rattle.card.proofs.frames.frame.Tie as tie
-use Rattle.card.proofs.frames.frame.Reads as reads
-use Rattle.card.proofs.frames.frame.Lts as lts
-use Rattle.card.proofs.frames.judge.Reads as judge-reads
-use Rattle.card.proofs.frames.tell_spared.Reads as tell-spared-reads
-use Rattle.record.proofs.csd_protects.Reads as csd-protects-reads
-use Rattle.store.proofs.erase.Reads as erase-reads
-use Rattle.store.proofs.protect.Reads as protect-reads
 
 -- what follows from a change that is known: the answer, and that it is the one that the definition has
 told : (card : Card) (frame : List ℕ) (memory : ℕ) (map : List ℕ) (j : FrameJudged) {change : Change} → j ≡ frameJudged card frame memory map

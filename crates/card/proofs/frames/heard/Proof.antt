@@ -1,9 +1,6 @@
 use borrow.Author.Needs.{needs}
 use Rattle.card.proofs.frames.heard.Statement.{statement}
 use Rattle.card.proofs.frames.heard.Tie as tie
-use Rattle.card.proofs.frames.heard.Reads as reads
-use Rattle.card.proofs.frames.heard.Lts as lts
-use Rattle.command.proofs.command.Reads as command-reads
 
 -- src/frames.rt:40:9
 command-requires : tie.Need-command-requires

@@ -4,13 +4,6 @@ use Rattle.card.specs.Frame.{frameJudged}
 use borrow.Author.Needs.{needs}
 use Rattle.card.proofs.frames.judge.Statement.{statement}
 use Rattle.card.proofs.frames.judge.Tie as tie
-use Rattle.card.proofs.frames.judge.Reads as reads
-use Rattle.card.proofs.frames.judge.Lts as lts
-use Rattle.card.proofs.frames.damaged.Reads as damaged-reads
-use Rattle.card.proofs.frames.heard.Reads as heard-reads
-use Rattle.card.proofs.frames.unheard.Reads as unheard-reads
-use Rattle.store.proofs.lent_right.Reads as lent-right-reads
-use Rattle.wire.proofs.unframe.Reads as unframe-reads
 
 -- src/frames.rt:70:40
 cast-lent-right : tie.Need-cast-lent-right

@@ -1,11 +1,7 @@
 use borrow.Author.Tests.{not-true, not-false}
-use borrow.Author.Tests.{eq-eqb}
 use borrow.Author.Needs.{needs}
 use Rattle.card.proofs.frames.tell_spared.Statement.{statement}
 use Rattle.card.proofs.frames.tell_spared.Tie as tie
-use Rattle.card.proofs.frames.tell_spared.Reads as reads
-use Rattle.card.proofs.frames.tell_spared.Lts as lts
-use Rattle.status.proofs.set.Reads as set-reads
 
 -- src/frames.rt:95:9
 returns : tie.Need-returns

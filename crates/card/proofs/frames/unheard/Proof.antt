@@ -1,9 +1,6 @@
 use borrow.Author.Needs.{needs}
 use Rattle.card.proofs.frames.unheard.Statement.{statement}
 use Rattle.card.proofs.frames.unheard.Tie as tie
-use Rattle.card.proofs.frames.unheard.Reads as reads
-use Rattle.card.proofs.frames.unheard.Lts as lts
-use Rattle.card.proofs.replies.refuse.Reads as refuse-reads
 
 -- src/frames.rt:24:18
 refuse-requires : tie.Need-refuse-requires

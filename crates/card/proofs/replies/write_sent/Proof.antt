@@ -2,16 +2,10 @@ use native.Mathlib.Omega.{arith}
 use borrow.Author.Tests.{le-leb}
 use denote.Ref.{now}
 use lib.ListN.{length}
-use Rattle.card.specs.Sent.{sentBytes}
-use Rattle.card.specs.Sent.{sentWritten}
+use Rattle.card.specs.Sent.{sentBytes, sentWritten}
 use borrow.Author.Needs.{needs}
 use Rattle.card.proofs.replies.write_sent.Statement.{statement}
 use Rattle.card.proofs.replies.write_sent.Tie as tie
-use Rattle.card.proofs.replies.write_sent.Reads as reads
-use Rattle.card.proofs.replies.write_sent.Lts as lts
-use Rattle.wire.proofs.write_r1.Reads as write-r1-reads
-use Rattle.wire.proofs.write_r2.Reads as write-r2-reads
-use Rattle.wire.proofs.write_r3.Reads as write-r3-reads
 
 -- src/replies.rt:50:26
 enum-told : tie.Need-enum-told
