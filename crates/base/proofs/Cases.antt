@@ -2,7 +2,8 @@
 --   cases        what follows from a test's being true and from its being false
 --   picked       a property of both branches, each where it is chosen, is one of a `pick`
 --   guarded      a property of a refusal and of what comes after it is one of an `unless`
---   never        what is false is not true, so anything follows
+--   clash        0 is not 1, so anything follows; with hypotheses that can't both be, `clash cc`
+--   never        what is false is not true
 --   opposite     nor is a test both
 --   first, last  two tests that hold at once, and so each of them
 --   both         two tests at once that antt computes, with its two parts
@@ -27,8 +28,11 @@ pub guarded : {A : Type 0} (P : A → Type 0) (t : Bool) {refusal rest : A} → 
 guarded P true miss hit = hit refl
 guarded P false miss hit = miss refl
 
+pub clash : {P : Type 0} → _≡_ {A = ℕ} 0 1 → P
+clash e = absurd (omega arith)
+
 pub never : {P : Type 0} → false ≡ true → P
-never e = let z : _≡_ {A = ℕ} 0 1 = cc in absurd (omega arith)
+never e = clash cc
 
 pub opposite : {P : Type 0} (t : Bool) → t ≡ true → t ≡ false → P
 opposite t hit miss = never (sym miss ∙ hit)

@@ -14,7 +14,7 @@ use native.Mathlib.Omega.{arith}
 use borrow.Author.Tests.{leb-true, ltb-true, ltb-false, eqb-true, not-true}
 use lib.Dec.{eqb, leb, ltb}
 use lib.ListN.{length, take}
-use Rattle.base.proofs.Cases.{guarded}
+use Rattle.base.proofs.Cases.{guarded, clash}
 use Rattle.base.specs.Refusals.{by}
 use Rattle.base.specs.declared.Refusal.{Refusal}
 use Rattle.command.specs.Command.{damagedLink, commandOf}
@@ -41,7 +41,7 @@ use Rattle.wire.specs.Blocks.{carried, told as toldCrc}
 use Rattle.wire.specs.Frames.{crc7Of, field, sentOf, framingOf, checked, frameOf}
 use Rattle.wire.specs.declared.Frame.the-variants.{Command}
 use Rattle.wire.specs.declared.Framing.{Framing}
-use Rattle.wire.specs.declared.Framing.the-variants.{Framed, Unframed}
+use Rattle.wire.specs.declared.Framing.the-variants.{Framed}
 use Rattle.card.specs.BlockIn.{beside, awaitedLength, afterStored, blockRefused, blockGood, writeJudged, lockJudged, requestJudged, carriedOut, awaitedJudged, unread, stateJudged, blockJudged}
 use Rattle.card.specs.BlockOut.{unsent, outRefused, outGood, afterSent, partJudged, protectionJudged, outgoingJudged, stateSends, outJudged}
 use Rattle.card.specs.Frame.{metAlone, frameRefused, commanded, framed, frameJudged, sparedTold}
@@ -60,8 +60,8 @@ pub data WritesAt : Incoming → ℕ → Type 0 where
 
 pub only : {i j : Incoming} {a b : ℕ} → WritesAt i a → WritesAt j b → i ≡ j → a ≡ b
 only (one a) (one b) e = cc
-only (one a) (many b) e = let z : _≡_ {A = ℕ} 0 1 = cc in absurd (omega arith)
-only (many a) (one b) e = let z : _≡_ {A = ℕ} 0 1 = cc in absurd (omega arith)
+only (one a) (many b) e = clash cc
+only (many a) (one b) e = clash cc
 only (many a) (many b) e = cc
 
 -- the sectors of a card's memory

@@ -9,9 +9,8 @@ use mathlib.Core.Path.{_≡_, refl, subst}
 use mathlib.Core.Bool.{Bool, true, false, not, _||_}
 use mathlib.Core.List.{List, [], _∷_}
 use Prim.Native.Nat.{ℕ}
-use native.Mathlib.Omega.{arith}
 use lib.Dec.{T}
-use Rattle.base.proofs.Cases.{picked, guarded, opposite}
+use Rattle.base.proofs.Cases.{picked, guarded, clash, opposite}
 use Rattle.base.specs.Choice.{pick}
 use Rattle.command.specs.Answers.{responseOf}
 use Rattle.command.specs.Arguments.{argumentFault}
@@ -93,7 +92,7 @@ pub judged-drops : (link : Link) (groups : ℕ) (locked : Bool) (index argument 
 unfolding judgedOf taggingOf
 judged-drops link groups locked index argument =
     guarded Drops (passesLock locked index) (λ t bit e. refl)
-    (λ t. picked Drops (among index (13 ∷ [])) (λ u bit e. let z : _≡_ {A = ℕ} 0 1 = cc in absurd (omega arith))
+    (λ t. picked Drops (among index (13 ∷ [])) (λ u bit e. clash cc)
     (λ u. picked Drops (among index (32 ∷ [])) (λ v. start-error-drops Sectors argument (sizeOf groups))
     (λ v. picked Drops (among index (33 ∷ [])) (λ w. end-error-drops (link .tags) Sectors argument (sizeOf groups))
     (λ w. picked Drops (among index (35 ∷ [])) (λ x. start-error-drops Groups argument (sizeOf groups))

@@ -8,10 +8,9 @@ use mathlib.Core.Path.{_≡_, refl, sym, ap, _∙_, subst}
 use mathlib.Core.Bool.{true, false}
 use mathlib.Core.List.{List, [], _∷_}
 use Prim.Native.Nat.{ℕ}
-use native.Mathlib.Omega.{arith}
 use lib.Dec.{eqb}
 use lib.ListN.{length}
-use Rattle.base.proofs.Cases.{cases, picked}
+use Rattle.base.proofs.Cases.{cases, picked, clash}
 use Rattle.base.specs.Refusals.{numberOf, by}
 use Rattle.base.specs.declared.Refusal.{Refusal}
 use Rattle.card.proofs.Outcomes.{Refuses as Awaited, wrong-length, wrong-crc, past-end, protected, failed, InOutcome, unreads, refuses, stores, grants, forces, OutOutcome, unsends, past, across, sends, FrameOutcome, unheard, damaged, commands, block-outcome, out-outcome, frame-outcome, told}
@@ -104,9 +103,9 @@ module _ (card : Card) (r : Refusal) where
   in-left block memory map (unreads n listed) e =
       (each (Same BlockIn) (12 ∷ 15 ∷ []) (left BlockIn 12 refl refl, (left BlockIn 15 refl refl, tt)) n listed e, refl)
   in-left block memory map (refuses incoming refusal fault on why) e = (awaited-left incoming on why e, refl)
-  in-left block memory map (stores incoming at w on right) e = let z : _≡_ {A = ℕ} 0 1 = cc in absurd (omega arith)
-  in-left block memory map (grants on granted) e = let z : _≡_ {A = ℕ} 0 1 = cc in absurd (omega arith)
-  in-left block memory map (forces on erased) e = let z : _≡_ {A = ℕ} 0 1 = cc in absurd (omega arith)
+  in-left block memory map (stores incoming at w on right) e = clash cc
+  in-left block memory map (grants on granted) e = clash cc
+  in-left block memory map (forces on erased) e = clash cc
 
   -- ---- a block out
   out-left : {j : OutJudged} → OutOutcome card j → j .stepped .reply .outcome ≡ Refused r → Left BlockOut (j .stepped) × (j .sending ≡ sending.Nothing)
@@ -115,7 +114,7 @@ module _ (card : Card) (r : Refusal) where
       (each (Same BlockOut) (12 ∷ 15 ∷ 6 ∷ []) (left BlockOut 12 refl refl, (left BlockOut 15 refl refl, (left BlockOut 6 refl refl, tt))) n listed e, refl)
   out-left (past outgoing on) e = (left BlockOut 18 refl refl e, refl)
   out-left (across outgoing on) e = (left BlockOut 21 refl refl e, refl)
-  out-left (sends outgoing next n sending on within) e = let z : _≡_ {A = ℕ} 0 1 = cc in absurd (omega arith)
+  out-left (sends outgoing next n sending on within) e = clash cc
 
   -- ---- a frame
   frame-left : (frame : List ℕ) (memory : ℕ) (map : List ℕ) {j : FrameJudged} → FrameOutcome card frame memory map j
@@ -129,7 +128,7 @@ module _ (card : Card) (r : Refusal) where
       let done : sparedTold (commanded card given .stepped) (spares card memory map (given .change)) .reply .outcome ≡ Done =
       told (λ (s : Stepped). s .reply .outcome ≡ Done) (commanded card given .stepped) (spares card memory map (given .change)) refl refl
       in
-      let z : _≡_ {A = ℕ} 0 1 = cc in absurd (omega arith)
+      clash cc
 
 pub refused-by-number : (card : Card) (call : Call) (input memory map out : List ℕ) (r : Refusal)
     → Refuses card call input memory map out r → ByNumber card call input memory map out r
@@ -164,8 +163,8 @@ refused-by-number card BlockOut input memory map out r e =
       map-kept = refl;
       output-kept = ap (sentOut memory map out) same;
     }
-refused-by-number card WorkDone input memory map out r e = let z : _≡_ {A = ℕ} 0 1 = cc in absurd (omega arith)
-refused-by-number card PowerOn input memory map out r e = let z : _≡_ {A = ℕ} 0 1 = cc in absurd (omega arith)
+refused-by-number card WorkDone input memory map out r e = clash cc
+refused-by-number card PowerOn input memory map out r e = clash cc
 
 module _ (card : Card) where
   abbrev Kept : Card → Type 0

@@ -25,7 +25,7 @@ use borrow.Author.Tests.{le-leb, ne-eqb}
 use lib.Dec.{eqb, leb}
 use lib.ListN.{length, take, drop, getD}
 use Rattle.base.specs.Choice.{unless}
-use Rattle.base.proofs.Cases.{cases, picked, guarded}
+use Rattle.base.proofs.Cases.{cases, picked, guarded, clash}
 use Rattle.lock.specs.Passwords.{stored, same, holding, noPassword, flagged}
 use Rattle.lock.specs.Requests.{askedBy, told, carried, whole, oldOf, newOf, settable, presented, allowed, failed, grantedIf, doneOf, requestOf}
 use Rattle.lock.specs.declared.Answer.the-variants.{Granted, Erased, Failed}
@@ -50,10 +50,10 @@ module _ (lock : Lock) where
   kept-unless t rest k = guarded Kept t (λ f e. refl) (λ h. k)
 
   kept-granted : (next : Lock) → Kept (record { lock = next; answer = Granted })
-  kept-granted next e = let z : _≡_ {A = ℕ} 0 1 = cc in absurd (omega arith)
+  kept-granted next e = clash cc
 
   kept-erased : (next : Lock) → Kept (record { lock = next; answer = Erased })
-  kept-erased next e = let z : _≡_ {A = ℕ} 0 1 = cc in absurd (omega arith)
+  kept-erased next e = clash cc
 
   kept-done : (asked : Asked) (payload : List ℕ) (protected : Bool) → Kept (doneOf asked lock payload protected)
   kept-done Unlock p b = kept-unless (presented lock p) _ (kept-granted (flagged lock false))
@@ -167,8 +167,8 @@ module _ (lock : Lock) (rest : List ℕ) (protected : Bool) where
 granted-next : (t u : Bool) (lock next : Lock) → unless t (failed lock) (grantedIf u lock next) .answer ≡ Granted
     → (u ≡ true) × (unless t (failed lock) (grantedIf u lock next) .lock ≡ next)
 granted-next true true lock next e = (refl, refl)
-granted-next true false lock next e = let z : _≡_ {A = ℕ} 0 1 = cc in absurd (omega arith)
-granted-next false u lock next e = let z : _≡_ {A = ℕ} 0 1 = cc in absurd (omega arith)
+granted-next true false lock next e = clash cc
+granted-next false u lock next e = clash cc
 
 -- a granted request that begins with the byte k leaves a record of the new password, which has 1 to 16 bytes, and the flag
 abbrev pub Holds : Lock → List ℕ → Bool → ℕ → Bool → Type 0

@@ -6,6 +6,7 @@ use mathlib.Core.Bool.{Bool, true}
 use mathlib.Core.List.{List}
 use Prim.Native.Nat.{ℕ, _+_, _*_, _/_, _≤_, _<_}
 use native.Mathlib.Omega.{arith}
+use Rattle.base.proofs.Cases.{clash}
 use Rattle.base.specs.declared.Refusal.{Refusal}
 use Rattle.card.proofs.Outcomes.{Refuses, wrong-length, wrong-crc, past-end, protected, failed, askedOf, InOutcome, unreads, refuses, stores, grants, forces, OutOutcome, unsends, past, across, sends, block-outcome, out-outcome}
 use Rattle.card.specs.BlockIn.{afterRefused, afterStored, withFault, blockRefused, blockGood, blockJudged}
@@ -82,10 +83,10 @@ module _ (card : Card) (made : Made card) where
 
   -- there are tags in tran alone
   rcv-untagged : (incoming : Incoming) → card .link .state ≡ Rcv incoming → anyOf (card .link .tags) ≡ true → ⊥
-  rcv-untagged incoming on t = let tran = made .link .tagged t .0 in let z : _≡_ {A = ℕ} 0 1 = cc in omega arith
+  rcv-untagged incoming on t = let tran = made .link .tagged t .0 in clash cc
 
   data-untagged : (outgoing : Outgoing) → card .link .state ≡ Data outgoing → anyOf (card .link .tags) ≡ true → ⊥
-  data-untagged outgoing on t = let tran = made .link .tagged t .0 in let z : _≡_ {A = ℕ} 0 1 = cc in omega arith
+  data-untagged outgoing on t = let tran = made .link .tagged t .0 in clash cc
 
   -- the card with another link, and with another password record
   with-link : (state : State) (errors : Errors) → (anyOf (card .link .tags) ≡ true → ⊥) → here state → Pending errors

@@ -5,6 +5,7 @@ use mathlib.Core.Path.{_≡_, ap, _∙_, subst}
 use mathlib.Core.List.{List, [], _∷_}
 use Prim.Native.Nat.{ℕ, _<_}
 use native.Mathlib.Omega.{arith}
+use Rattle.base.proofs.Cases.{clash}
 use Rattle.base.specs.Refusals.{numberOf, by}
 use Rattle.base.specs.declared.Refusal.{Refusal}
 use Rattle.card.proofs.Outcomes.{one, only, sectors, Refuses, wrong-length, wrong-crc, past-end, protected, failed, InOutcome, unreads, refuses, stores, grants, forces, block-outcome}
@@ -47,9 +48,9 @@ module _ (card : Card) (made : Made card) (at : ℕ) (awaits : card .link .state
     not-18 (unreads n listed) e is =
         each (λ (k : ℕ). by k ≡ refusal → ⊥) (12 ∷ 15 ∷ []) (λ z. omega (arith, ap numberOf z), (λ z. omega (arith, ap numberOf z), tt)) n listed (cc)
     not-18 (refuses incoming other fault on why) e is = let z : other ≡ refusal = cc in refusal-other incoming on why (ap numberOf z ∙ is)
-    not-18 (stores incoming other w on right) e is = let z : _≡_ {A = ℕ} 0 1 = cc in omega arith
-    not-18 (grants on granted) e is = let z : _≡_ {A = ℕ} 0 1 = cc in omega arith
-    not-18 (forces on erased) e is = let z : _≡_ {A = ℕ} 0 1 = cc in omega arith
+    not-18 (stores incoming other w on right) e is = clash cc
+    not-18 (grants on granted) e is = clash cc
+    not-18 (forces on erased) e is = clash cc
 
   pub one-block-in-range : (block : List ℕ) (memory : ℕ) (map : List ℕ) (room : ℕ) (refusal : Refusal)
       → stepOf card BlockIn block memory map room .reply .outcome ≡ Refused refusal → numberOf refusal ≡ 18 → ⊥

@@ -12,7 +12,7 @@ use native.Mathlib.Omega.{arith}
 use borrow.Author.Tests.{eqb-true, eqb-false, not-true}
 use lib.Dec.{eqb, leb}
 use lib.ListN.{length}
-use Rattle.base.proofs.Cases.{guarded, last}
+use Rattle.base.proofs.Cases.{guarded, clash, last}
 use Rattle.base.specs.Refusals.{by}
 use Rattle.base.specs.declared.Refusal.{Refusal}
 use Rattle.card.proofs.Outcomes.{FrameOutcome, unheard, damaged, commands, frame-outcome, told}
@@ -141,7 +141,7 @@ step-made card PowerOn input memory map room made = powered-on-made card made
 module _ (registers : Registers) (right : MadeRegisters registers) where
   locked-by-made : (lock : Lock) (making : LockMaking) → MadeLock lock → lockedBy registers lock making .making ≡ Done → Made (lockedBy registers lock making .card)
   locked-by-made lock LockDone m e = record { registers = right; lock = m; link = fresh-made (registers .groups) (lock .locked) }
-  locked-by-made lock (LockRefused refusal) m e = let z : _≡_ {A = ℕ} 0 1 = cc in absurd (omega arith)
+  locked-by-made lock (LockRefused refusal) m e = clash cc
 
   password-made : (password : List ℕ) → passwordMade registers password .making ≡ Done → Made (passwordMade registers password .card)
   unfolding passwordMade
@@ -152,7 +152,7 @@ abbrev Makes : MadeOf → Type 0
 Makes made = made .making ≡ Done → Made (made .card)
 
 refused-makes : (refusal : Refusal) → Makes (failedMake refusal)
-refused-makes refusal e = let z : _≡_ {A = ℕ} 0 1 = cc in absurd (omega arith)
+refused-makes refusal e = clash cc
 
 -- an allowed size is one of whole protection groups
 whole-groups : (memory : ℕ) → sizeAllowed memory ≡ true → sizeOf (memory / 8192) ≡ memory

@@ -9,10 +9,9 @@ use mathlib.Core.Path.{_≡_, refl}
 use mathlib.Core.Bool.{Bool, true, false}
 use mathlib.Core.List.{List}
 use Prim.Native.Nat.{ℕ, _/_}
-use native.Mathlib.Omega.{arith}
 use borrow.Author.Tests.{eqb-true}
 use lib.Dec.{eqb}
-use Rattle.base.proofs.Cases.{picked, never}
+use Rattle.base.proofs.Cases.{picked, clash, never}
 use Rattle.base.specs.Choice.{pick, unless}
 use Rattle.card.proofs.Outcomes.{FrameOutcome, unheard, damaged, commands, frame-outcome}
 use Rattle.card.specs.Frame.{metAlone, frameJudged}
@@ -57,7 +56,7 @@ module _ (link : Link) (met : Met) (index argument : ℕ) where
 
   no-error : (t : Bool) (bit : ErrorBit) (rest : Tagging) → unless t (failed bit) rest .error ≡ None → t ≡ true
   no-error true bit rest e = refl
-  no-error false bit rest e = let z : _≡_ {A = ℕ} 0 1 = cc in absurd (omega arith)
+  no-error false bit rest e = clash cc
 
   passes : judgedOf link (met .groups) (met .locked) index argument .error ≡ None → passesLock (met .locked) index ≡ true
   unfolding judgedOf

@@ -15,7 +15,7 @@ use native.Mathlib.Omega.{arith}
 use borrow.Author.Tests.{leb-false}
 use lib.Dec.{eqb}
 use lib.ListN.{length, getD}
-use Rattle.base.proofs.Cases.{cases, picked, opposite}
+use Rattle.base.proofs.Cases.{cases, picked, clash, opposite}
 use Rattle.base.specs.Refusals.{by}
 use Rattle.card.proofs.Outcomes.{InOutcome, unreads, refuses, stores, grants, forces, OutOutcome, unsends, past, across, sends, FrameOutcome, unheard, damaged, commands, block-outcome, out-outcome, frame-outcome, told}
 use Rattle.card.specs.BlockIn.{blockRefused, blockGood, blockJudged}
@@ -72,11 +72,11 @@ module _ (card : Card) (locked : LockedCard card) (call : Call) (input : List �
   memory-cause memory map sector (written at w e) = absurd (locked .no-write at (w .awaited))
   memory-cause memory map sector (erased t) =
       opposite (card .lock .locked) (locked .locked)
-      (changed-unlocked card input memory map Erase (t .taken) (λ e. let z : _≡_ {A = ℕ} 0 1 = cc in omega arith))
+      (changed-unlocked card input memory map Erase (t .taken) (λ e. clash cc))
   memory-cause memory map sector (forced f) = f
 
   set-unlocked : (memory : ℕ) (map : List ℕ) (group : ℕ) (on : Bool) → frameJudged card input memory map .change ≡ Protect group on → card .lock .locked ≡ false
-  set-unlocked memory map group on t = changed-unlocked card input memory map (Protect group on) t (λ e. let z : _≡_ {A = ℕ} 0 1 = cc in omega arith)
+  set-unlocked memory map group on t = changed-unlocked card input memory map (Protect group on) t (λ e. clash cc)
 
   either-set : (memory : ℕ) (map : List ℕ) (argument group : ℕ)
       → SetBy card call input memory map 28 true argument group ⊎ SetBy card call input memory map 29 false argument group → card .lock .locked ≡ false
@@ -102,10 +102,10 @@ module _ (card : Card) (input : List ℕ) (memory : ℕ) (map : List ℕ) (locke
 
   request-unlocks : {requested : Requested} → Asks (card .lock) (payloadOf input) (csdProtects (card .registers .csd)) requested
       → requested .answer ≡ Granted → (getD (payloadOf input) 0 0 ≡ 0) × (presented (card .lock) (payloadOf input) ≡ true)
-  request-unlocks fails a = let z : _≡_ {A = ℕ} 0 1 = cc in absurd (omega arith)
+  request-unlocks fails a = clash cc
   request-unlocks (unlocks b l p) a = (b, p)
   request-unlocks (others next l) a = opposite (card .lock .locked) locked l
-  request-unlocks (erased-all b l p) a = let z : _≡_ {A = ℕ} 0 1 = cc in absurd (omega arith)
+  request-unlocks (erased-all b l p) a = clash cc
 
   block-unlocks : {judged : BlockJudged} → InOutcome card input memory map judged → blockJudged card input memory map ≡ judged
       → judged .stepped .card .lock .locked ≡ false → Why BlockIn

@@ -9,12 +9,11 @@ use mathlib.Core.Bool.{true, false}
 use mathlib.Core.List.{List}
 use mathlib.Core.Logic.{inl, inr}
 use Prim.Native.Nat.{ℕ, _/_}
-use native.Mathlib.Omega.{arith}
 use borrow.Author.Tests.{eqb-true, eqb-false}
 use lib.Dec.{eqb}
 use lib.ListN.{length, getD}
 use lib.Seq.{ext-getD}
-use Rattle.base.proofs.Cases.{cases, opposite}
+use Rattle.base.proofs.Cases.{cases, clash, opposite}
 use Rattle.card.proofs.Outcomes.{WritesAt, one, many, only, InOutcome, unreads, refuses, stores, grants, forces, block-outcome}
 use Rattle.card.specs.BlockIn.{blockRefused, blockGood, blockJudged}
 use Rattle.card.specs.Step.{memoryOf}
@@ -44,15 +43,15 @@ module _ (card : Card) (at : ℕ) where
   place w s (inr a) = only w (many at) (cc)
 
   pub no-request : {P : Type 0} → card .link .state ≡ Rcv LockRequest → AwaitsWrite card at → P
-  no-request s (inl a) = let z : _≡_ {A = ℕ} 0 1 = cc in absurd (omega arith)
-  no-request s (inr a) = let z : _≡_ {A = ℕ} 0 1 = cc in absurd (omega arith)
+  no-request s (inl a) = clash cc
+  no-request s (inr a) = clash cc
 
 module _ (card : Card) (block : List ℕ) (memory : ℕ) (map : List ℕ) where
   free : (at : ℕ) {judged : BlockJudged} → InOutcome card block memory map judged → AwaitsWrite card at → judged .stepped .reply .outcome ≡ Done
       → protectedIn map (csdProtects (card .registers .csd)) (at / 512) ≡ false
   unfolding blockRefused blockGood
-  free at (unreads n listed) a d = let z : _≡_ {A = ℕ} 0 1 = cc in absurd (omega arith)
-  free at (refuses incoming refusal fault s why) a d = let z : _≡_ {A = ℕ} 0 1 = cc in absurd (omega arith)
+  free at (unreads n listed) a d = clash cc
+  free at (refuses incoming refusal fault s why) a d = clash cc
   free at (stores incoming other w s right) a d = rw (place card at w s a) at (right .free)
   free at (grants s e) a d = no-request card at s a
   free at (forces s e) a d = no-request card at s a
@@ -66,17 +65,17 @@ module _ (card : Card) (block : List ℕ) (memory : ℕ) (map : List ℕ) where
 
   request-locked : {requested : Requested} → Asks (card .lock) (carried block) (csdProtects (card .registers .csd)) requested
       → requested .answer ≡ Erased → Locked
-  request-locked fails e = let z : _≡_ {A = ℕ} 0 1 = cc in absurd (omega arith)
-  request-locked (unlocks b l p) e = let z : _≡_ {A = ℕ} 0 1 = cc in absurd (omega arith)
-  request-locked (others next l) e = let z : _≡_ {A = ℕ} 0 1 = cc in absurd (omega arith)
+  request-locked fails e = clash cc
+  request-locked (unlocks b l p) e = clash cc
+  request-locked (others next l) e = clash cc
   request-locked (erases b l p) e = (p, l)
 
   all-locked : {judged : BlockJudged} → InOutcome card block memory map judged → judged .storing ≡ All → Locked
   unfolding blockRefused blockGood
-  all-locked (unreads n listed) e = let z : _≡_ {A = ℕ} 0 1 = cc in absurd (omega arith)
-  all-locked (refuses incoming refusal fault s why) e = let z : _≡_ {A = ℕ} 0 1 = cc in absurd (omega arith)
-  all-locked (stores incoming at w s right) e = let z : _≡_ {A = ℕ} 0 1 = cc in absurd (omega arith)
-  all-locked (grants s a) e = let z : _≡_ {A = ℕ} 0 1 = cc in absurd (omega arith)
+  all-locked (unreads n listed) e = clash cc
+  all-locked (refuses incoming refusal fault s why) e = clash cc
+  all-locked (stores incoming at w s right) e = clash cc
+  all-locked (grants s a) e = clash cc
   all-locked (forces s a) e = request-locked (asks (card .lock) (carried block) (csdProtects (card .registers .csd))) a
 
   pub forced-locked : (call : Call) → ForcedErase card call block memory map → (csdProtects (card .registers .csd) ≡ false) × (card .lock .locked ≡ true)

@@ -11,7 +11,7 @@ use borrow.Author.Tests.{eqb-true, le-leb, le-ltb}
 use lib.Dec.{eqb}
 use lib.ListN.{length, take, drop, length-append, length-drop}
 use lib.Seq.{length-take-le, take-at}
-use Rattle.base.proofs.Cases.{first}
+use Rattle.base.proofs.Cases.{clash, first}
 use Rattle.card.proofs.Outcomes.{WritesAt, one, many, only, Storable, InOutcome, unreads, refuses, stores, grants, forces, block-outcome}
 use Rattle.card.specs.BlockIn.{afterStored, blockRefused, blockGood, blockJudged, keptOf, storedBy, clearedBy}
 use Rattle.card.specs.BlockOut.{partJudged, outGood, outJudged, partSent, sentOut}
@@ -50,14 +50,14 @@ record Stored (card : Card) (incoming : Incoming) (at : ℕ) (block : List ℕ) 
   storable : Storable card block memory map (at / 512)
 
 no-write : {P : Type 0} {incoming : Incoming} {at : ℕ} → WritesAt incoming at → incoming ≡ LockRequest → P
-no-write (one at) e = let z : _≡_ {A = ℕ} 0 1 = cc in absurd (omega arith)
-no-write (many at) e = let z : _≡_ {A = ℕ} 0 1 = cc in absurd (omega arith)
+no-write (one at) e = clash cc
+no-write (many at) e = clash cc
 
 module _ (card : Card) (block : List ℕ) (memory : ℕ) (map : List ℕ) (incoming : Incoming) (at : ℕ) (w : WritesAt incoming at) (state : card .link .state ≡ Rcv incoming) where
   stored-as : {judged : BlockJudged} → InOutcome card block memory map judged → judged .stepped .reply .outcome ≡ Done → Stored card incoming at block memory map judged
   unfolding blockRefused blockGood
-  stored-as (unreads n listed) d = let z : _≡_ {A = ℕ} 0 1 = cc in absurd (omega arith)
-  stored-as (refuses other refusal fault s why) d = let z : _≡_ {A = ℕ} 0 1 = cc in absurd (omega arith)
+  stored-as (unreads n listed) d = clash cc
+  stored-as (refuses other refusal fault s why) d = clash cc
   stored-as (stores other place v s right) d =
       let ei : other ≡ incoming = cc in
       let ea : place ≡ at = only v w ei in

@@ -17,7 +17,7 @@ use Rattle.base.specs.Choice.{unless}
 use Rattle.base.specs.Output.{laid}
 use Rattle.base.specs.Refusals.{by}
 use Rattle.base.specs.declared.Refusal.{Refusal}
-use Rattle.base.proofs.Cases.{passed}
+use Rattle.base.proofs.Cases.{clash, passed}
 use Rattle.base.proofs.Output.{front}
 use Rattle.crc.specs.Bits.{bits, spelt, Below}
 use Rattle.crc.specs.Crc.{remainder, checkSum, generator16, crc16}
@@ -38,7 +38,7 @@ unfolding checkedOf
 judged b lo hi = simp (le-leb 3 (length b) lo, le-leb (length b) 2050 hi)
 
 no-refusal : (r : Refusal) (n : ℕ) → _≡_ {A = Checked} (Refused r) (Payload n) → ⊥
-no-refusal r n e = let z : _≡_ {A = ℕ} 0 1 = cc in omega arith
+no-refusal r n e = clash cc
 
 pub record Good (b : List ℕ) (n : ℕ) : Type 0 where
   pub low : 3 ≤ length b

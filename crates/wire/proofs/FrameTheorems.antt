@@ -18,7 +18,7 @@ use Rattle.base.specs.Output.{fits, laid}
 use Rattle.base.specs.Refusals.{by}
 use Rattle.base.specs.declared.Refusal.{Refusal}
 use Rattle.base.specs.declared.Written.the-variants.{Refused as NotWritten}
-use Rattle.base.proofs.Cases.{passed}
+use Rattle.base.proofs.Cases.{clash, passed}
 use Rattle.base.proofs.Output.{front}
 use Rattle.crc.specs.Bits.{bitsOf, bits, spelt, octets, Below}
 use Rattle.crc.proofs.Bits.{below-append, below-take, below-drop, bitsOf-below, bits-below, length-bits, bitsOf-spelt, bits-octets, octets-bits, spelt-bitsOf, spelt-lt}
@@ -84,7 +84,7 @@ pub record Sent (w : List ℕ) (i a : ℕ) : Type 0 where
   pub crc : field w 40 7 ≡ crc7Of (take 40 w)
 
 no-refusal : (r : Refusal) (i a : ℕ) → _≡_ {A = Framing} (Unframed r) (Framed i a true) → ⊥
-no-refusal r i a e = let z : _≡_ {A = ℕ} 0 1 = cc in omega arith
+no-refusal r i a e = clash cc
 
 sent : (w : List ℕ) (i a : ℕ) → sentOf w ≡ Framed i a true → Sent w i a
 unfolding sentOf
@@ -105,8 +105,8 @@ sent w i a e =
 -- a command that is read came in a frame with the right CRC7
 pub framing : (g : Framing) (i a : ℕ) → checked g ≡ Command i a → g ≡ Framed i a true
 framing (Framed x y true) i a e = let ex : x ≡ i = cc in let ey : y ≡ a = cc in ap₂ (λ (p q : ℕ). Framed p q true) ex ey
-framing (Framed x y false) i a e = let z : _≡_ {A = ℕ} 0 1 = cc in absurd (omega arith)
-framing (Unframed r) i a e = let z : _≡_ {A = ℕ} 0 1 = cc in absurd (omega arith)
+framing (Framed x y false) i a e = clash cc
+framing (Unframed r) i a e = clash cc
 
 pub read : (f : List ℕ) (i a : ℕ) → frameOf f ≡ Command i a → (length f ≡ 6) × Sent (bits f) i a
 unfolding frameOf framingOf

@@ -16,6 +16,7 @@ use mathlib.Core.List.{List, [], _∷_, _++_}
 use Prim.Native.Nat.{ℕ, _+_, _*_}
 use native.Mathlib.Omega.{arith}
 use lib.ListN.{getD, replicate}
+use Rattle.base.proofs.Cases.{clash}
 use Rattle.base.specs.declared.Written.the-variants.{Bytes}
 use Rattle.crc.specs.Bits.{bitsOf, bits, octets}
 use Rattle.crc.specs.Crc.{divide, remainder, checkSum, crc7, crc16}
@@ -37,7 +38,7 @@ unfolding r1Frame commandFrame sealed crc7Of remainder divide
 r1-as-a-command e = let z : _≡_ {A = ℕ} 0x10 0x50 = ap (λ (l : List ℕ). getD l 0 0) e in omega arith
 
 r1-index-64 : indexed 64 (r1Frame a1) (replicate 6 0) ≡ Bytes 6 → ⊥
-r1-index-64 e = let z : _≡_ {A = ℕ} 0 1 = cc in omega arith
+r1-index-64 e = clash cc
 
 r3-bit-31-clear : r3Frame a3 ≡ 0x3F ∷ octets 4 (bitsOf 32 0x00FF8000) ++ (0xFF ∷ []) → ⊥
 unfolding r3Frame
@@ -57,11 +58,11 @@ last-unmoved e = omega (arith, e)
 
 every-register : registerRight (replicate 16 0) ≡ true → ⊥
 unfolding registerRight lastByte crc7Of remainder divide bits
-every-register e = let z : _≡_ {A = ℕ} 0 1 = cc in omega arith
+every-register e = clash cc
 
 every-block : checkedOf (0x80 ∷ 0x91 ∷ 0x89 ∷ []) ≡ Payload 1 → ⊥
 unfolding checkedOf crc16 checkSum remainder divide bits
-every-block e = let z : _≡_ {A = ℕ} 0 1 = cc in omega arith
+every-block e = clash cc
 
 length-of-the-block : checkedOf (0x80 ∷ 0x91 ∷ 0x88 ∷ []) ≡ Payload 3 → ⊥
 unfolding checkedOf crc16 checkSum remainder divide bits

@@ -9,7 +9,7 @@ use denote.Ref.{now}
 use lib.Dec.{eqb, leb}
 use lib.ListN.{take, length}
 use Rattle.base.specs.declared.Refusal.{Refusal}
-use Rattle.base.proofs.Cases.{cases}
+use Rattle.base.proofs.Cases.{cases, clash}
 use Rattle.crc.specs.Crc.{crc16}
 use Rattle.record.specs.Record.{lengthRead}
 use Rattle.record.specs.declared.Card.{Card}
@@ -24,7 +24,7 @@ use Rattle.card.proofs.blocks_in.awaited_judged.Statement.{statement}
 use Rattle.card.proofs.blocks_in.awaited_judged.Tie as tie
 
 no-refusal : (r : Refusal) (n : ℕ) → _≡_ {A = Checked} (Refused r) (Payload n) → ⊥
-no-refusal r n e = let z : _≡_ {A = ℕ} 0 1 = cc in omega arith
+no-refusal r n e = clash cc
 
 -- a block that checks has the right CRC16
 crc-right : (b : List ℕ) {n : ℕ} → checkedOf b ≡ Payload n → eqb (told b) (crc16 (carried b)) ≡ true
