@@ -5,14 +5,14 @@
 --   damage-made     and every damaged frame
 -- Assumes nothing.
 use mathlib.Core.Path.{_≡_, refl, ap, _∙_}
-use mathlib.Core.Bool.{Bool, true, not, _&&_}
+use mathlib.Core.Bool.{Bool, true, not}
 use mathlib.Core.List.{List}
-use Prim.Native.Nat.{ℕ, _/_, _%_}
+use Prim.Native.Nat.{ℕ, _/_}
 use native.Mathlib.Omega.{arith}
-use borrow.Author.Tests.{eqb-true, eqb-false, not-true}
-use lib.Dec.{eqb, leb}
+use borrow.Author.Tests.{eqb-false, not-true}
+use lib.Dec.{eqb}
 use lib.ListN.{length}
-use Rattle.base.proofs.Cases.{guarded, clash, last}
+use Rattle.base.proofs.Cases.{guarded, clash}
 use Rattle.base.specs.Refusals.{by}
 use Rattle.base.specs.declared.Refusal.{Refusal}
 use Rattle.card.proofs.Outcomes.{FrameOutcome, unheard, damaged, commands, frame-outcome, told}
@@ -39,6 +39,7 @@ use Rattle.states.specs.declared.State.{State}
 use Rattle.states.specs.declared.State.the-variants.{Idle, Ready, Ident, Stby, Tran, Data, Rcv, Prg, Dis, Ina}
 use Rattle.status.specs.ErrorBits.{errorBit}
 use Rattle.status.specs.Status.{withBit}
+use Rattle.store.proofs.Sectors.{allowed-size}
 use Rattle.store.specs.Map.{mapRight}
 use Rattle.store.specs.Memory.{sizeAllowed}
 use Rattle.wire.specs.Responses.{registerRight}
@@ -156,8 +157,7 @@ refused-makes refusal e = clash cc
 
 -- an allowed size is one of whole protection groups
 whole-groups : (memory : ℕ) → sizeAllowed memory ≡ true → sizeOf (memory / 8192) ≡ memory
-whole-groups memory allowed =
-    omega (arith, eqb-true (memory % 8192) 0 (last (leb 8192 memory && leb memory 33554432) (eqb (memory % 8192) 0) allowed))
+whole-groups memory allowed = omega (arith, allowed-size memory allowed .2)
 
 pub make-made : (cid csd : List ℕ) (ocr : ℕ) (password : List ℕ) (memory : ℕ) (map : List ℕ)
     → madeOf cid csd ocr password memory map .making ≡ Done → Made (madeOf cid csd ocr password memory map .card)

@@ -7,15 +7,13 @@
 --                            never by power-on
 -- Assumes nothing.
 use mathlib.Core.Path.{_≡_, subst}
-use mathlib.Core.Bool.{true, false, _&&_}
+use mathlib.Core.Bool.{true, false}
 use mathlib.Core.List.{List}
 use mathlib.Core.Logic.{_⊎_, inl, inr}
-use Prim.Native.Nat.{ℕ, _%_, _≤_}
+use Prim.Native.Nat.{ℕ, _≤_}
 use native.Mathlib.Omega.{arith}
-use borrow.Author.Tests.{leb-true}
-use lib.Dec.{eqb, leb}
 use lib.ListN.{length, getD}
-use Rattle.base.proofs.Cases.{opposite, first, last}
+use Rattle.base.proofs.Cases.{opposite}
 use Rattle.card.specs.Step.{stepOf, memoryOf, mapOf}
 use Rattle.card.specs.declared.Call.{Call}
 use Rattle.card.specs.declared.Outcome.the-variants.{Done}
@@ -26,6 +24,7 @@ use Rattle.record.specs.declared.Card.{Card}
 use Rattle.states.specs.declared.Incoming.{Incoming}
 use Rattle.states.specs.declared.Incoming.the-variants.{One, Many}
 use Rattle.states.specs.declared.State.the-variants.{Rcv}
+use Rattle.store.proofs.Sectors.{allowed-size}
 use Rattle.stored.specs.Changes.{AwaitsWrite, ForcedErase}
 use Rattle.stored.specs.Locked.{LockedCard, UnlockGranted}
 use Rattle.stored.specs.ReadBack.{World, blockIn, storedThenRead, storedStoppedThenRead, Awaiting, ReadsBack}
@@ -39,9 +38,7 @@ module _ (card : Card) (made : Made card) where
 
   -- "8,192 to 33,554,432 bytes"
   size-small : sizeOf (card .registers .groups) ≤ 33554432
-  size-small =
-      let size : ℕ = sizeOf (card .registers .groups) in
-      leb-true size 33554432 (last (leb 8192 size) (leb size 33554432) (first (leb 8192 size && leb size 33554432) (eqb (size % 8192) 0) (made .registers .size)))
+  size-small = allowed-size (sizeOf (card .registers .groups)) (made .registers .size) .1
 
   pub made-awaiting : (at : ℕ) → AwaitsWrite card at → Awaiting card at
   made-awaiting at (inl on) =
