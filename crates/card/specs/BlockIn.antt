@@ -1,6 +1,6 @@
 -- Document 01, "Reading, writing, erasing, locking": a block in. "Block in: 12, 15, 16, 17, 18, 19 or 20."
 -- Assumes nothing.
-use mathlib.Core.Bool.{Bool, not}
+use mathlib.Core.Bool.{not}
 use mathlib.Core.List.{List, _++_}
 use Prim.Native.Nat.{ℕ, _+_, _-_, _*_, _/_}
 use lib.Dec.{eqb, ltb}

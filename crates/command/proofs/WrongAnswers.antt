@@ -40,6 +40,7 @@ use mathlib.Core.Bool.{Bool, true, false}
 use mathlib.Core.Path.{_≡_}
 use Prim.Native.Nat.{ℕ}
 use native.Mathlib.Omega.{arith}
+use Rattle.base.proofs.Cases.{clash}
 use Rattle.moves.specs.Classes.{classOf}
 use Rattle.moves.specs.Moves.{moveOf}
 use Rattle.moves.specs.Rows.{rowOf, transferRow}
@@ -98,11 +99,11 @@ illegal-in-stby e = omega arith
 
 locked-card-reads : commandOf (card Tran 0 noTags) (met true) 17 0 .link .state ≡ Data (One 0) → ⊥
 unfolding commandOf rowOf transferRow moveOf classOf takenOf judgedOf concluded resetTold responseOf answered wordOf
-locked-card-reads e = let z : _≡_ {A = ℕ} 0 1 = cc in omega arith
+locked-card-reads e = clash cc
 
 lock-request-locked-out : commandOf (card Tran 0 noTags) (met true) 42 0 .link .state ≡ Tran → ⊥
 unfolding commandOf rowOf transferRow moveOf classOf takenOf judgedOf taggingOf argumentFault concluded resetTold responseOf answered obeyed awaitedBy changeOf wordOf
-lock-request-locked-out e = let z : _≡_ {A = ℕ} 0 1 = cc in omega arith
+lock-request-locked-out e = clash cc
 
 long-block-taken : commandOf (card Tran 0 noTags) (met false) 16 2049 .link .length ≡ 2049 → ⊥
 unfolding commandOf rowOf transferRow moveOf takenOf judgedOf taggingOf argumentFault concluded resetTold responseOf answered wordOf
@@ -110,7 +111,7 @@ long-block-taken e = omega arith
 
 status-drops-tags : commandOf (card Tran 0 started) (met false) 13 0x00010000 .link .tags .range ≡ Nothing → ⊥
 unfolding commandOf rowOf moveOf takenOf judgedOf taggingOf argumentFault concluded resetTold responseOf answered obeyed awaitedBy changeOf wordOf
-status-drops-tags e = let z : _≡_ {A = ℕ} 0 1 = cc in omega arith
+status-drops-tags e = clash cc
 
 reset-told-by-cmd0 : commandOf (card Tran 0 started) (met false) 0 0 .link .errors .bits ≡ 0x00002000 → ⊥
 unfolding commandOf rowOf moveOf takenOf freshLink
@@ -122,7 +123,7 @@ damage-told-inactive e = omega arith
 
 damage-drops-tags : damagedLink (card Tran 0 started) .tags .range ≡ Nothing → ⊥
 unfolding damagedLink
-damage-drops-tags e = let z : _≡_ {A = ℕ} 0 1 = cc in omega arith
+damage-drops-tags e = clash cc
 
 damage-clears-bits : damagedLink (card Tran 0x00400000 noTags) .errors .bits ≡ 0x00800000 → ⊥
 unfolding damagedLink
@@ -130,19 +131,19 @@ damage-clears-bits e = omega arith
 
 locked-read-judged : judgedOf (card Tran 0 noTags) 1 true 17 0 .error ≡ None → ⊥
 unfolding judgedOf classOf
-locked-read-judged e = let z : _≡_ {A = ℕ} 0 1 = cc in omega arith
+locked-read-judged e = clash cc
 
 misaligned-out-of-range : judgedOf (card Tran 0 noTags) 1 false 24 1 .error ≡ Bit (errorBit 31) → ⊥
 unfolding judgedOf taggingOf argumentFault
-misaligned-out-of-range e = let z : _≡_ {A = ℕ} 0 1 = cc in omega arith
+misaligned-out-of-range e = clash cc
 
 end-misaligned : judgedOf (card Tran 0 noTags) 1 false 24 7681 .error ≡ Bit (errorBit 30) → ⊥
 unfolding judgedOf taggingOf argumentFault
-end-misaligned e = let z : _≡_ {A = ℕ} 0 1 = cc in omega arith
+end-misaligned e = clash cc
 
 lock-keeps-tags : judgedOf (card Tran 0 started) 1 true 33 512 .tags .range ≡ Start Sectors 1 → ⊥
 unfolding judgedOf classOf taggingOf endTagged
-lock-keeps-tags e = let z : _≡_ {A = ℕ} 0 1 = cc in omega arith
+lock-keeps-tags e = clash cc
 
 address-from-low-half : obeyed (card Ident 0 noTags) 3 0x00020003 ToStby noTags .address ≡ 3 → ⊥
 unfolding obeyed
@@ -150,15 +151,15 @@ address-from-low-half e = omega arith
 
 many-read-as-one : obeyed (card Tran 0 noTags) 18 512 ToData noTags .state ≡ Data (One 512) → ⊥
 unfolding obeyed awaitedBy
-many-read-as-one e = let z : _≡_ {A = ℕ} 0 1 = cc in omega arith
+many-read-as-one e = clash cc
 
 status-ends-work : obeyed (card (Data (Many 512)) 0 noTags) 13 0x00010000 ToData noTags .state ≡ Tran → ⊥
 unfolding obeyed awaitedBy
-status-ends-work e = let z : _≡_ {A = ℕ} 0 1 = cc in omega arith
+status-ends-work e = clash cc
 
 clear-sets : changeOf 29 8192 ≡ Protect 1 true → ⊥
 unfolding changeOf
-clear-sets e = let z : _≡_ {A = ℕ} 0 1 = cc in omega arith
+clear-sets e = clash cc
 
 group-by-byte : changeOf 28 8192 ≡ Protect 8192 true → ⊥
 unfolding changeOf
@@ -166,21 +167,21 @@ group-by-byte e = let z : _≡_ {A = ℕ} 1 8192 = cc in omega arith
 
 read-erases : changeOf 17 8192 ≡ Erase → ⊥
 unfolding changeOf
-read-erases e = let z : _≡_ {A = ℕ} 0 1 = cc in omega arith
+read-erases e = clash cc
 
 lock-stops-request : passesLock true 42 ≡ false → ⊥
 unfolding classOf
-lock-stops-request e = let z : _≡_ {A = ℕ} 0 1 = cc in omega arith
+lock-stops-request e = clash cc
 
 lock-passes-read : passesLock true 17 ≡ true → ⊥
 unfolding classOf
-lock-passes-read e = let z : _≡_ {A = ℕ} 0 1 = cc in omega arith
+lock-passes-read e = clash cc
 
 unlocked-stops : passesLock false 17 ≡ false → ⊥
-unlocked-stops e = let z : _≡_ {A = ℕ} 0 1 = cc in omega arith
+unlocked-stops e = clash cc
 
 status-drops : dropsTags 13 ≡ true → ⊥
-status-drops e = let z : _≡_ {A = ℕ} 0 1 = cc in omega arith
+status-drops e = clash cc
 
 read-keeps : dropsTags 17 ≡ false → ⊥
-read-keeps e = let z : _≡_ {A = ℕ} 0 1 = cc in omega arith
+read-keeps e = clash cc

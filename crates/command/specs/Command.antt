@@ -1,6 +1,5 @@
 -- Document 01, "How a card takes a frame": the six checks in order, from check 1 on, and the legal moves.
 -- Assumes nothing.
-use mathlib.Core.Bool.{Bool}
 use Prim.Native.Nat.{ℕ}
 use lib.Dec.{eqb}
 use Rattle.base.specs.Choice.{pick, unless}
@@ -21,7 +20,6 @@ use Rattle.status.specs.declared.Errors.{Errors}
 use Rattle.status.specs.declared.Fault.{Fault}
 use Rattle.status.specs.declared.Fault.the-variants.{None, Bit}
 use Rattle.tags.specs.Tagging.{anyOf}
-use Rattle.tags.specs.declared.Tagging.{Tagging}
 use Rattle.tags.specs.declared.Tags.{Tags}
 use Rattle.command.specs.Answers.{responseOf, silent, answered}
 use Rattle.command.specs.Obey.{dropsTags, judgedOf, obeyed, changeOf}

@@ -16,7 +16,7 @@ use Rattle.states.specs.declared.Outgoing.the-variants.{One as OneOut, Many as 
 use Rattle.states.specs.declared.State.{State}
 use Rattle.states.specs.declared.State.the-variants.{Idle, Ready, Ident, Stby, Tran, Data, Rcv, Prg, Dis, Ina}
 use Rattle.status.specs.ErrorBits.{errorBit}
-use Rattle.status.specs.declared.Fault.the-variants.{None, Bit}
+use Rattle.status.specs.declared.Fault.the-variants.{None}
 use Rattle.tags.specs.Tagging.{noTags, failed, startTagged, endTagged}
 use Rattle.tags.specs.Tags.{eraseOf}
 use Rattle.tags.specs.declared.Kind.the-variants.{Sectors, Groups}

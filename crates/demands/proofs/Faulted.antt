@@ -9,9 +9,8 @@ use mathlib.Core.Path.{_≡_, sym, ap, _∙_}
 use mathlib.Core.Bool.{Bool, true, false}
 use mathlib.Core.List.{List}
 use Prim.Native.Nat.{ℕ}
-use native.Mathlib.Omega.{arith}
 use lib.Dec.{eqb}
-use Rattle.base.proofs.Cases.{cases}
+use Rattle.base.proofs.Cases.{cases, clash}
 use Rattle.base.specs.Choice.{pick, unless}
 use Rattle.card.specs.Frame.{metAlone}
 use Rattle.command.specs.Answers.{answered, silent}
@@ -69,13 +68,13 @@ module _ (link : Link) (met : Met) (index argument : ℕ) (column : Column) (bit
       cases (among index faultless)
       (λ (t : among index faultless ≡ true).
       let none : fault link met index argument ≡ None = no-fault link (met .groups) (met .locked) argument index t in
-      let z : _≡_ {A = ℕ} 0 1 = cc in absurd (omega arith))
+      clash cc)
       (λ t. t)
 
   not-reset : eqb index 0 ≡ false
   not-reset =
       cases (eqb index 0)
-      (λ (t : eqb index 0 ≡ true). let z : _≡_ {A = ℕ} 0 1 = cc (simp t at others) in absurd (omega arith))
+      (λ (t : eqb index 0 ≡ true). clash (cc (simp t at others)))
       (λ t. t)
 
   -- the answer to these error bits, for a response and tags

@@ -9,8 +9,8 @@ use mathlib.Core.Path.{_≡_, refl, subst}
 use mathlib.Core.Bool.{Bool, true, false, not, _||_}
 use mathlib.Core.List.{List, [], _∷_}
 use Prim.Native.Nat.{ℕ}
-use native.Mathlib.Omega.{arith}
 use lib.Dec.{T}
+use Rattle.base.proofs.Cases.{picked, guarded, clash, opposite}
 use Rattle.base.specs.Choice.{pick}
 use Rattle.command.specs.Answers.{responseOf}
 use Rattle.command.specs.Arguments.{argumentFault}
@@ -18,6 +18,7 @@ use Rattle.command.specs.Obey.{passesLock, erasing, taggingOf, judgedOf}
 use Rattle.command.specs.declared.Change.the-variants.{Nothing}
 use Rattle.command.specs.declared.Response.{Response}
 use Rattle.command.specs.declared.Response.the-variants as response
+use Rattle.moves.proofs.Among.{All, each}
 use Rattle.moves.proofs.Orders.{everywhere}
 use Rattle.moves.specs.Classes.{classOf}
 use Rattle.moves.specs.Indices.{among}
@@ -38,7 +39,6 @@ use Rattle.tags.specs.Tags.{eraseOf}
 use Rattle.tags.specs.declared.Kind.the-variants.{Sectors, Groups}
 use Rattle.tags.specs.declared.ToErase.{ToErase}
 use Rattle.tags.specs.declared.ToErase.the-variants.{Sectors as FromTo, Error}
-use Rattle.demands.proofs.Branches.{picked, guarded, each, Each}
 
 -- the commands that have no error to show: class 0 but for CMD3, 12 and 13
 abbrev pub faultless : List ℕ
@@ -92,7 +92,7 @@ pub judged-drops : (link : Link) (groups : ℕ) (locked : Bool) (index argument 
 unfolding judgedOf taggingOf
 judged-drops link groups locked index argument =
     guarded Drops (passesLock locked index) (λ t bit e. refl)
-    (λ t. picked Drops (among index (13 ∷ [])) (λ u bit e. let z : _≡_ {A = ℕ} 0 1 = cc in absurd (omega arith))
+    (λ t. picked Drops (among index (13 ∷ [])) (λ u bit e. clash cc)
     (λ u. picked Drops (among index (32 ∷ [])) (λ v. start-error-drops Sectors argument (sizeOf groups))
     (λ v. picked Drops (among index (33 ∷ [])) (λ w. end-error-drops (link .tags) Sectors argument (sizeOf groups))
     (λ w. picked Drops (among index (35 ∷ [])) (λ x. start-error-drops Groups argument (sizeOf groups))
@@ -110,11 +110,10 @@ module _ (asked : Asked) (others : among (asked .index) faultless ≡ false) whe
   Listed : ℕ → Type 0
   Listed k = among k faultless ≡ true
 
-  never : (ks : List ℕ) → Each Listed ks → among (asked .index) ks ≡ true → ⊥
+  -- it is none of a list of such commands
+  other-than : {P : Type 0} (ks : List ℕ) → All Listed ks → among (asked .index) ks ≡ true → P
   unfolding Listed
-  never ks listed h =
-      let yes : among (asked .index) faultless ≡ true = each Listed ks listed (asked .index) h in
-      let z : _≡_ {A = ℕ} 0 1 = cc in omega arith
+  other-than ks listed h = opposite (among (asked .index) faultless) (each Listed ks listed (asked .index) h) others
 
   transfer-judging : Judging (transferRow (asked .index))
   unfolding transferRow
@@ -127,16 +126,16 @@ module _ (asked : Asked) (others : among (asked .index) faultless ≡ false) whe
   pub row-judging : Judging (rowOf asked)
   unfolding rowOf Listed
   row-judging =
-      picked Judging (among (asked .index) (0 ∷ [])) (λ t. absurd (never (0 ∷ []) (refl, tt) t))
-      (λ t0. picked Judging (among (asked .index) (1 ∷ [])) (λ t. absurd (never (1 ∷ []) (refl, tt) t))
-      (λ t1. picked Judging (among (asked .index) (2 ∷ [])) (λ t. absurd (never (2 ∷ []) (refl, tt) t))
+      picked Judging (among (asked .index) (0 ∷ [])) (other-than (0 ∷ []) (refl, tt))
+      (λ t0. picked Judging (among (asked .index) (1 ∷ [])) (other-than (1 ∷ []) (refl, tt))
+      (λ t1. picked Judging (among (asked .index) (2 ∷ [])) (other-than (2 ∷ []) (refl, tt))
       (λ t2. picked Judging (among (asked .index) (3 ∷ [])) (λ t. refl)
-      (λ t3. picked Judging (among (asked .index) (4 ∷ [])) (λ t. absurd (never (4 ∷ []) (refl, tt) t))
-      (λ t4. picked Judging (among (asked .index) (7 ∷ [])) (λ t. absurd (never (7 ∷ []) (refl, tt) t))
-      (λ t7. picked Judging (among (asked .index) (9 ∷ 10 ∷ [])) (λ t. absurd (never (9 ∷ 10 ∷ []) (refl, (refl, tt)) t))
+      (λ t3. picked Judging (among (asked .index) (4 ∷ [])) (other-than (4 ∷ []) (refl, tt))
+      (λ t4. picked Judging (among (asked .index) (7 ∷ [])) (other-than (7 ∷ []) (refl, tt))
+      (λ t7. picked Judging (among (asked .index) (9 ∷ 10 ∷ [])) (other-than (9 ∷ 10 ∷ []) (refl, (refl, tt)))
       (λ t9. picked Judging (among (asked .index) (12 ∷ [])) (λ t. refl)
       (λ t12. picked Judging (among (asked .index) (13 ∷ [])) (λ t. picked Judging (own asked) (λ o. refl) (λ o. refl))
-      (λ t13. picked Judging (among (asked .index) (15 ∷ [])) (λ t. absurd (never (15 ∷ []) (refl, tt) t)) (λ t15. transfer-judging))))))))))
+      (λ t13. picked Judging (among (asked .index) (15 ∷ [])) (other-than (15 ∷ []) (refl, tt)) (λ t15. transfer-judging))))))))))
 
 -- such a row is answered by R1 wherever the table has a move for it: one test of the whole table
 abbrev isR1 : Response → Bool

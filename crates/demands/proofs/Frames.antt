@@ -4,10 +4,9 @@
 --   unchanged-frame   a frame that is silent and unchanged leaves the card equal in every field
 -- Assumes nothing.
 use mathlib.Core.Path.{_≡_, refl, ap, _∙_}
-use mathlib.Core.Bool.{Bool, true, false}
+use mathlib.Core.Bool.{Bool}
 use mathlib.Core.List.{List}
 use Prim.Native.Nat.{ℕ}
-use native.Mathlib.Omega.{arith}
 use lib.ListN.{length}
 use Rattle.base.specs.Choice.{unless}
 use Rattle.base.specs.Refusals.{by}
@@ -23,18 +22,10 @@ use Rattle.command.specs.declared.Change.the-variants.{Nothing}
 use Rattle.command.specs.declared.Commanded.{Commanded}
 use Rattle.record.specs.declared.Card.{Card}
 use Rattle.record.specs.declared.Link.{Link}
-use Rattle.wire.specs.Frames.{framingOf, checked}
+use Rattle.wire.proofs.FrameTheorems.{framing}
+use Rattle.wire.specs.Frames.{framingOf}
 use Rattle.wire.specs.Frames as wire
-use Rattle.wire.specs.declared.Frame.the-variants.{Command}
-use Rattle.wire.specs.declared.Framing.{Framing}
-use Rattle.wire.specs.declared.Framing.the-variants.{Framed, Unframed}
 use Rattle.demands.specs.Silenced.{Reads, Unlent}
-
--- a command that was read came in a frame with the right CRC7
-framing : (f : Framing) (index argument : ℕ) → checked f ≡ Command index argument → f ≡ Framed index argument true
-framing (Framed i a true) index argument e = cc
-framing (Framed i a false) index argument e = let z : _≡_ {A = ℕ} 0 1 = cc in absurd (omega arith)
-framing (Unframed refusal) index argument e = let z : _≡_ {A = ℕ} 0 1 = cc in absurd (omega arith)
 
 module _ (card : Card) (frame memory map out : List ℕ) (index argument : ℕ) (reads : Reads card frame memory map index argument) where
   abbrev given : Commanded

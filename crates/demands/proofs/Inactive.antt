@@ -4,6 +4,7 @@
 use mathlib.Core.Path.{_≡_, refl, sym, ap, _∙_, subst}
 use mathlib.Core.List.{List}
 use Prim.Native.Nat.{ℕ}
+use Rattle.base.proofs.Cases.{guarded}
 use Rattle.card.specs.BlockIn.{stateJudged, blockJudged}
 use Rattle.card.specs.BlockOut.{stateSends, outJudged}
 use Rattle.card.specs.Frame.{metAlone, framed, frameJudged, frameOf, spares, sparedTold}
@@ -24,7 +25,6 @@ use Rattle.store.specs.Map.{lentRight}
 use Rattle.wire.specs.Frames.{framingOf}
 use Rattle.wire.specs.declared.Framing.{Framing}
 use Rattle.wire.specs.declared.Framing.the-variants.{Framed, Unframed}
-use Rattle.demands.proofs.Branches.{guarded}
 use Rattle.demands.proofs.Silenced.{check-1}
 
 module _ (card : Card) (ina : card .link .state ≡ Ina) where

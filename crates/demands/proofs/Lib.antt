@@ -1,12 +1,8 @@
 pub mod Blind
-pub mod Branches
 pub mod Examples
 pub mod Faulted
 pub mod Faults
 pub mod Frames
 pub mod Inactive
 pub mod Refused
-pub mod RefusedFrame
-pub mod RefusedIn
-pub mod RefusedOut
 pub mod Silenced

@@ -5,18 +5,19 @@
 --   refused-keeps       so a refusal leaves them
 -- Assumes nothing.
 use mathlib.Core.Path.{_≡_, refl, sym, ap, _∙_, subst}
-use mathlib.Core.Bool.{Bool, true, false}
+use mathlib.Core.Bool.{true, false}
 use mathlib.Core.List.{List, [], _∷_}
 use Prim.Native.Nat.{ℕ}
-use native.Mathlib.Omega.{arith}
 use lib.Dec.{eqb}
 use lib.ListN.{length}
+use Rattle.base.proofs.Cases.{cases, picked, clash}
 use Rattle.base.specs.Refusals.{numberOf, by}
 use Rattle.base.specs.declared.Refusal.{Refusal}
-use Rattle.card.specs.BlockIn.{keptOf, storedBy, clearedBy}
-use Rattle.card.specs.BlockOut.{sentOut}
-use Rattle.card.specs.Frame.{frameOf, erasedBy, protectedBy, spares, sparedTold}
-use Rattle.card.specs.Replies.{replied, refused}
+use Rattle.card.proofs.Outcomes.{Refuses as Awaited, wrong-length, wrong-crc, past-end, protected, failed, InOutcome, unreads, refuses, stores, grants, forces, OutOutcome, unsends, past, across, sends, FrameOutcome, unheard, damaged, commands, block-outcome, out-outcome, frame-outcome, told}
+use Rattle.card.specs.BlockIn.{afterRefused, withFault, blockRefused, blockGood, keptOf, storedBy, clearedBy}
+use Rattle.card.specs.BlockOut.{outRefused, outGood, sentOut}
+use Rattle.card.specs.Frame.{metAlone, commanded, frameOf, erasedBy, protectedBy, spares, sparedTold}
+use Rattle.card.specs.Replies.{refused}
 use Rattle.card.specs.Step.{stepOf}
 use Rattle.card.specs.declared.BlockJudged.{BlockJudged}
 use Rattle.card.specs.declared.Call.{Call}
@@ -27,24 +28,38 @@ use Rattle.card.specs.declared.Outcome.the-variants.{Done, Refused}
 use Rattle.card.specs.declared.Sending.the-variants as sending
 use Rattle.card.specs.declared.Stepped.{Stepped}
 use Rattle.card.specs.declared.Storing.the-variants as storing
+use Rattle.command.specs.Command.{damagedLink, commandOf}
 use Rattle.command.specs.declared.Change.the-variants as change
+use Rattle.command.specs.declared.Commanded.{Commanded}
 use Rattle.command.specs.declared.Sent.the-variants.{Nothing}
+use Rattle.moves.proofs.Among.{each}
 use Rattle.moves.specs.Indices.{among}
+use Rattle.record.specs.Record.{withState, withErrors, withLink}
 use Rattle.record.specs.declared.Card.{Card}
+use Rattle.states.specs.States.{columnOf}
+use Rattle.states.specs.States.{numberOf as placeOf}
+use Rattle.states.specs.declared.Incoming.{Incoming}
+use Rattle.states.specs.declared.Incoming.the-variants.{One, Many, LockRequest}
 use Rattle.states.specs.declared.State.{State}
+use Rattle.states.specs.declared.State.the-variants.{Rcv}
+use Rattle.status.specs.ErrorBits.{errorBit}
+use Rattle.status.specs.declared.Fault.{Fault}
+use Rattle.status.specs.declared.Fault.the-variants.{None, Bit}
 use Rattle.demands.specs.Refused.{numbers, named, Refuses, ByNumber, Keeps, inactive, givenUp, moved, noted, notedIn}
-use Rattle.demands.proofs.Branches.{picked}
-use Rattle.demands.proofs.RefusedFrame
-use Rattle.demands.proofs.RefusedFrame.{Heard, frame}
-use Rattle.demands.proofs.RefusedIn
-use Rattle.demands.proofs.RefusedIn.{In, block-in}
-use Rattle.demands.proofs.RefusedOut
-use Rattle.demands.proofs.RefusedOut.{Out, block-out}
 
--- that CMD38 spared something is told in the record alone
-told-outcome : (stepped : Stepped) (spared : Bool) → sparedTold stepped spared .reply .outcome ≡ stepped .reply .outcome
-told-outcome stepped true = refl
-told-outcome stepped false = refl
+-- a refused block gives up what was awaited as document 01 says
+lands : (incoming : Incoming) → givenUp (Rcv incoming) ≡ afterRefused incoming
+lands (One at) = refl
+lands (Many at) = refl
+lands LockRequest = refl
+
+-- "3 sets bit 23 of the card .. unless Inactive"
+damage-named : (card : Card) → withLink card (damagedLink (card .link)) ≡ named Frame 3 card
+unfolding damagedLink
+damage-named card =
+    cases (eqb (placeOf (columnOf (card .link .state))) 9)
+    (λ (t : eqb (placeOf (columnOf (card .link .state))) 9 ≡ true). simp t)
+    (λ (t : eqb (placeOf (columnOf (card .link .state))) 9 ≡ false). simp t)
 
 module _ (card : Card) (r : Refusal) where
   -- of a call that is refused: the number, the record, and nothing sent
@@ -60,27 +75,66 @@ module _ (card : Card) (r : Refusal) where
       let m : numberOf r ≡ n = sym (ap numberOf same) ∙ right in
       record { number = rw m listed; next = rw m; unsent = refl }
 
-  in-left : {j : BlockJudged} → In card j → j .stepped .reply .outcome ≡ Refused r → Left BlockIn (j .stepped) × (j .storing ≡ storing.Nothing)
-  in-left (RefusedIn.refuses n right listed) e = (left BlockIn n right listed e, refl)
-  in-left (RefusedIn.goes next storing) e = let z : _≡_ {A = ℕ} 0 1 = cc in absurd (omega arith)
+  -- a call that is refused with a number and leaves the record
+  abbrev Same : Call → ℕ → Type 0
+  Same call n = Refused (by n) ≡ Refused r → Left call (refused card (by n))
 
-  out-left : {j : OutJudged} → Out card j → j .stepped .reply .outcome ≡ Refused r → Left BlockOut (j .stepped) × (j .sending ≡ sending.Nothing)
-  out-left (RefusedOut.refuses n right listed) e = (left BlockOut n right listed e, refl)
-  out-left (RefusedOut.goes next n sending) e = let z : _≡_ {A = ℕ} 0 1 = cc in absurd (omega arith)
+  -- ---- a block in
+  module _ (incoming : Incoming) (on : card .link .state ≡ Rcv incoming) where
+    -- the record after a refusal with a number and a fault, in a state
+    abbrev leaves : ℕ → Fault → State → Stepped
+    leaves n fault state = refused (withLink card (withErrors (withState (card .link) state) (withFault (card .link .errors) fault))) (by n)
 
-  frame-left : (memory : ℕ) (map : List ℕ) {j : FrameJudged} → Heard card j
+    up : (n : ℕ) (fault : Fault) → Left BlockIn (leaves n fault (givenUp (card .link .state))) → Left BlockIn (leaves n fault (afterRefused incoming))
+    up n fault = subst (λ (s : State). Left BlockIn (leaves n fault s)) (ap givenUp on ∙ lands incoming)
+
+    awaited-left : {refusal : Refusal} {fault : Fault} → Awaited card incoming refusal fault → Refused refusal ≡ Refused r
+        → Left BlockIn (blockRefused card incoming refusal fault .stepped)
+    unfolding blockRefused
+    awaited-left wrong-length e = up 16 (Bit (errorBit 29)) (left BlockIn 16 refl refl e)
+    awaited-left wrong-crc e = up 17 None (left BlockIn 17 refl refl e)
+    awaited-left (past-end at w outside) e = up 18 (Bit (errorBit 31)) (left BlockIn 18 refl refl e)
+    awaited-left protected e = up 19 (Bit (errorBit 26)) (left BlockIn 19 refl refl e)
+    awaited-left failed e = up 20 (Bit (errorBit 24)) (left BlockIn 20 refl refl e)
+
+  in-left : (block : List ℕ) (memory : ℕ) (map : List ℕ) {j : BlockJudged} → InOutcome card block memory map j → j .stepped .reply .outcome ≡ Refused r
+      → Left BlockIn (j .stepped) × (j .storing ≡ storing.Nothing)
+  unfolding blockRefused blockGood
+  in-left block memory map (unreads n listed) e =
+      (each (Same BlockIn) (12 ∷ 15 ∷ []) (left BlockIn 12 refl refl, (left BlockIn 15 refl refl, tt)) n listed e, refl)
+  in-left block memory map (refuses incoming refusal fault on why) e = (awaited-left incoming on why e, refl)
+  in-left block memory map (stores incoming at w on right) e = clash cc
+  in-left block memory map (grants on granted) e = clash cc
+  in-left block memory map (forces on erased) e = clash cc
+
+  -- ---- a block out
+  out-left : {j : OutJudged} → OutOutcome card j → j .stepped .reply .outcome ≡ Refused r → Left BlockOut (j .stepped) × (j .sending ≡ sending.Nothing)
+  unfolding outRefused outGood
+  out-left (unsends n listed) e =
+      (each (Same BlockOut) (12 ∷ 15 ∷ 6 ∷ []) (left BlockOut 12 refl refl, (left BlockOut 15 refl refl, (left BlockOut 6 refl refl, tt))) n listed e, refl)
+  out-left (past outgoing on) e = (left BlockOut 18 refl refl e, refl)
+  out-left (across outgoing on) e = (left BlockOut 21 refl refl e, refl)
+  out-left (sends outgoing next n sending on within) e = clash cc
+
+  -- ---- a frame
+  frame-left : (frame : List ℕ) (memory : ℕ) (map : List ℕ) {j : FrameJudged} → FrameOutcome card frame memory map j
       → sparedTold (j .stepped) (spares card memory map (j .change)) .reply .outcome ≡ Refused r
       → Left Frame (sparedTold (j .stepped) (spares card memory map (j .change))) × (j .change ≡ change.Nothing)
-  frame-left memory map (RefusedFrame.refuses n right listed) e = (left Frame n right listed e, refl)
-  frame-left memory map (RefusedFrame.goes next sent change) e =
-      let done = told-outcome (replied next Done sent) (spares card memory map change) in
-      let z : _≡_ {A = ℕ} 0 1 = cc in absurd (omega arith)
+  frame-left frame memory map (unheard n listed) e =
+      (each (Same Frame) (12 ∷ 1 ∷ 2 ∷ []) (left Frame 12 refl refl, (left Frame 1 refl refl, (left Frame 2 refl refl, tt))) n listed e, refl)
+  frame-left frame memory map damaged e = (subst (λ (c : Card). Left Frame (refused c (by 3))) (sym (damage-named card)) (left Frame 3 refl refl e), refl)
+  frame-left frame memory map (commands index argument is lent) e =
+      let given : Commanded = commandOf (card .link) (metAlone card) index argument in
+      let done : sparedTold (commanded card given .stepped) (spares card memory map (given .change)) .reply .outcome ≡ Done =
+      told (λ (s : Stepped). s .reply .outcome ≡ Done) (commanded card given .stepped) (spares card memory map (given .change)) refl refl
+      in
+      clash cc
 
 pub refused-by-number : (card : Card) (call : Call) (input memory map out : List ℕ) (r : Refusal)
     → Refuses card call input memory map out r → ByNumber card call input memory map out r
 unfolding frameOf
 refused-by-number card Frame input memory map out r e =
-    let (l, same) = frame-left card r (length memory) map (frame card input (length memory) map) e in
+    let (l, same) = frame-left card r input (length memory) map (frame-outcome card input (length memory) map) e in
     record {
       number = l .number;
       next = l .next;
@@ -90,7 +144,7 @@ refused-by-number card Frame input memory map out r e =
       output-kept = refl;
     }
 refused-by-number card BlockIn input memory map out r e =
-    let (l, same) = in-left card r (block-in card input (length memory) map) e in
+    let (l, same) = in-left card r input (length memory) map (block-outcome card input (length memory) map) e in
     record {
       number = l .number;
       next = l .next;
@@ -100,7 +154,7 @@ refused-by-number card BlockIn input memory map out r e =
       output-kept = refl;
     }
 refused-by-number card BlockOut input memory map out r e =
-    let (l, same) = out-left card r (block-out card (length memory) map (length out)) e in
+    let (l, same) = out-left card r (out-outcome card (length memory) map (length out)) e in
     record {
       number = l .number;
       next = l .next;
@@ -109,8 +163,8 @@ refused-by-number card BlockOut input memory map out r e =
       map-kept = refl;
       output-kept = ap (sentOut memory map out) same;
     }
-refused-by-number card WorkDone input memory map out r e = let z : _≡_ {A = ℕ} 0 1 = cc in absurd (omega arith)
-refused-by-number card PowerOn input memory map out r e = let z : _≡_ {A = ℕ} 0 1 = cc in absurd (omega arith)
+refused-by-number card WorkDone input memory map out r e = clash cc
+refused-by-number card PowerOn input memory map out r e = clash cc
 
 module _ (card : Card) where
   abbrev Kept : Card → Type 0

@@ -14,9 +14,11 @@ use Prim.Native.Nat.{ℕ, _/_}
 use borrow.Author.Tests.{ne-eqb}
 use lib.Bits.{bitAnd}
 use lib.Dec.{T, eqb, ltb}
+use Rattle.base.proofs.Cases.{picked}
 use Rattle.base.specs.Choice.{pick}
 use Rattle.command.specs.Command.{askedOf, movedBy, commandOf}
 use Rattle.command.specs.declared.Met.{Met}
+use Rattle.moves.proofs.Among.{each}
 use Rattle.moves.proofs.Laws.{inactive, bit-22-states}
 use Rattle.moves.proofs.Orders.{moveNumber, movesNumbered, everywhere}
 use Rattle.moves.proofs.Spans.{told}
@@ -34,7 +36,6 @@ use Rattle.states.specs.declared.Column.{Column}
 use Rattle.states.specs.declared.Column.the-variants.{Idle, Ready, Ident, Tran, Data, Rcv, Prg}
 use Rattle.states.specs.declared.State.the-variants as state
 use Rattle.demands.specs.Silenced.{noneFrom, In, Outside, ForAnother, Unchanged, Marked, Judged, PassedOver, NoLegalMove}
-use Rattle.demands.proofs.Branches.{picked, each}
 
 holds : (b : Bool) → T b → b ≡ true
 holds true t = refl

@@ -6,7 +6,7 @@
 --   new-part           where the new password stands in the block
 --   presented-cut .. presented-is    the tests of `presented` in their order, each where it decides
 --   settable-cut .. settable-is      the same of `settable`
---   settable-parts     what is known of a block that passes them
+--   presented-parts, settable-parts    what is known of a block that passes them
 -- Assumes nothing.
 use mathlib.Core.Path.{_≡_, sym, ap, ap₂, _∙_}
 use mathlib.Core.Bool.{true, false}
@@ -17,11 +17,11 @@ use borrow.Author.Tests.{leb-true, le-leb, lt-leb}
 use lib.Dec.{leb}
 use lib.ListN.{length, take, drop, length-append, length-drop}
 use lib.Seq.{length-take-le, take-take, take-add, take-append-seam, drop-at, drop-drop}
-use Rattle.base.proofs.Cases.{passed}
+use Rattle.base.proofs.Cases.{never, passed}
 use Rattle.lock.specs.Passwords.{stored, same}
 use Rattle.lock.specs.Requests.{told, carried, whole, oldOf, newOf, settable, presented}
 use Rattle.lock.specs.declared.Lock.{Lock}
-use Rattle.lock.proofs.Same.{same-length}
+use Rattle.lock.proofs.Same.{same-equal, same-length}
 
 pub enough : (p : List ℕ) → whole p ≡ true → 2 + told p ≤ length p
 enough p w = leb-true (2 + told p) (length p) w
@@ -37,6 +37,13 @@ presented-cut lock p w = simp w
 pub settable-cut : (lock : Lock) (p : List ℕ) → whole p ≡ false → settable lock p ≡ false
 unfolding settable
 settable-cut lock p w = simp w
+
+pub presented-parts : (lock : Lock) (p : List ℕ) → presented lock p ≡ true → (1 ≤ length (stored lock)) × (carried p ≡ stored lock)
+unfolding presented
+presented-parts lock p s =
+    let t0 = passed (whole p) false _ true never s in
+    let t1 = passed (leb 1 (length (stored lock))) false _ true never (t0 .1) in
+    (leb-true 1 (length (stored lock)) (t1 .0), same-equal (carried p) (stored lock) (t1 .1))
 
 -- the payload of a request k with a password, and what may follow it in the block
 abbrev pub with-password : ℕ → List ℕ → List ℕ → List ℕ
@@ -97,10 +104,9 @@ module _ (lock : Lock) (p : List ℕ) (n : ℕ) (long : n ≡ length (stored loc
   pub settable-parts : settable lock p ≡ true → (whole p ≡ true) × (n + 1 ≤ told p) × (told p ≤ n + 16)
   unfolding settable
   settable-parts s =
-      let no : false ≡ true → ⊥ = λ (e : false ≡ true). let z : _≡_ {A = ℕ} 0 1 = cc in omega arith in
-      let t0 = passed (whole p) false _ true no s in
-      let t1 = passed (leb 1 (length (newOf lock p))) false _ true no (t0 .1) in
-      let t2 = passed (leb (length (newOf lock p)) 16) false _ true no (t1 .1) in
+      let t0 = passed (whole p) false _ true never s in
+      let t1 = passed (leb 1 (length (newOf lock p))) false _ true never (t0 .1) in
+      let t2 = passed (leb (length (newOf lock p)) 16) false _ true never (t1 .1) in
       let lo = leb-true 1 (length (newOf lock p)) (t1 .0) in
       let hi = leb-true (length (newOf lock p)) 16 (t2 .0) in
       (t0 .0, omega (arith, new-length (t0 .0)), omega (arith, new-length (t0 .0)))

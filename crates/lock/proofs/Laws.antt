@@ -24,8 +24,8 @@ use native.Mathlib.Omega.{arith}
 use borrow.Author.Tests.{le-leb, ne-eqb}
 use lib.Dec.{eqb, leb}
 use lib.ListN.{length, take, drop, getD}
-use Rattle.base.specs.Choice.{pick, unless}
-use Rattle.base.proofs.Cases.{cases}
+use Rattle.base.specs.Choice.{unless}
+use Rattle.base.proofs.Cases.{cases, picked, guarded, clash}
 use Rattle.lock.specs.Passwords.{stored, same, holding, noPassword, flagged}
 use Rattle.lock.specs.Requests.{askedBy, told, carried, whole, oldOf, newOf, settable, presented, allowed, failed, grantedIf, doneOf, requestOf}
 use Rattle.lock.specs.declared.Answer.the-variants.{Granted, Erased, Failed}
@@ -47,14 +47,13 @@ module _ (lock : Lock) where
   Kept r = r .answer ≡ Failed → r .lock ≡ lock
 
   kept-unless : (t : Bool) (rest : Requested) → Kept rest → Kept (unless t (failed lock) rest)
-  kept-unless true rest k = k
-  kept-unless false rest k = λ (e : Failed ≡ Failed). refl
+  kept-unless t rest k = guarded Kept t (λ f e. refl) (λ h. k)
 
   kept-granted : (next : Lock) → Kept (record { lock = next; answer = Granted })
-  kept-granted next e = let z : _≡_ {A = ℕ} 0 1 = cc in absurd (omega arith)
+  kept-granted next e = clash cc
 
   kept-erased : (next : Lock) → Kept (record { lock = next; answer = Erased })
-  kept-erased next e = let z : _≡_ {A = ℕ} 0 1 = cc in absurd (omega arith)
+  kept-erased next e = clash cc
 
   kept-done : (asked : Asked) (payload : List ℕ) (protected : Bool) → Kept (doneOf asked lock payload protected)
   kept-done Unlock p b = kept-unless (presented lock p) _ (kept-granted (flagged lock false))
@@ -78,10 +77,6 @@ module _ (lock : Lock) where
 always : {A : Type 0} (t : Bool) (x : A) → unless t x x ≡ x
 always true x = refl
 always false x = refl
-
-picked : {A : Type 0} (P : A → Type 0) (t : Bool) (x y : A) → P x → P y → P (pick t x y)
-picked P true x y px py = px
-picked P false x y px py = py
 
 module _ (lock : Lock) (rest : List ℕ) (protected : Bool) where
   -- a payload of a byte 0 at least: the flag decides, and then the request
@@ -161,19 +156,19 @@ module _ (lock : Lock) (rest : List ℕ) (protected : Bool) where
       let by-password = presented-cut lock (k ∷ rest) w in
       let by-set = settable-cut lock (k ∷ rest) w in
       done-fails k (
-      picked P (eqb k 0) Unlock _ (simp by-password)
-      (picked P (eqb k 1) Set _ (simp by-set)
-      (picked P (eqb k 2) Clear _ (simp by-password)
-      (picked P (eqb k 4) ToLock _ (simp by-password)
-      (picked P (eqb k 5) SetAndLock _ (simp by-set)
-      (simp (ne-eqb k 8 n8)))))))
+      picked P (eqb k 0) (λ t. simp by-password)
+      (λ t. picked P (eqb k 1) (λ t. simp by-set)
+      (λ t. picked P (eqb k 2) (λ t. simp by-password)
+      (λ t. picked P (eqb k 4) (λ t. simp by-password)
+      (λ t. picked P (eqb k 5) (λ t. simp by-set)
+      (λ t. simp (ne-eqb k 8 n8)))))))
 
 -- ---- what a granted set leaves
 granted-next : (t u : Bool) (lock next : Lock) → unless t (failed lock) (grantedIf u lock next) .answer ≡ Granted
     → (u ≡ true) × (unless t (failed lock) (grantedIf u lock next) .lock ≡ next)
 granted-next true true lock next e = (refl, refl)
-granted-next true false lock next e = let z : _≡_ {A = ℕ} 0 1 = cc in absurd (omega arith)
-granted-next false u lock next e = let z : _≡_ {A = ℕ} 0 1 = cc in absurd (omega arith)
+granted-next true false lock next e = clash cc
+granted-next false u lock next e = clash cc
 
 -- a granted request that begins with the byte k leaves a record of the new password, which has 1 to 16 bytes, and the flag
 abbrev pub Holds : Lock → List ℕ → Bool → ℕ → Bool → Type 0

@@ -11,12 +11,11 @@ use mathlib.Core.Bool.{true, false}
 use mathlib.Core.List.{List, [], _∷_, _++_}
 use Prim.Native.Nat.{ℕ, _+_, _<_}
 use native.Mathlib.Numerals.{add-one}
-use native.Mathlib.Omega.{arith}
 use borrow.Author.Tests.{eq-eqb, eqb-true}
 use lib.Dec.{eqb}
 use lib.ListN.{length, take, getD}
 use lib.Seq.{take-suc, getD-take}
-use Rattle.base.proofs.Cases.{cases}
+use Rattle.base.proofs.Cases.{cases, never}
 use Rattle.lock.specs.Passwords.{same}
 
 pub same-itself : (l : List ℕ) → same l l ≡ true
@@ -24,18 +23,15 @@ unfolding same
 same-itself [] = refl
 same-itself (x ∷ xs) = simp (eq-eqb x x refl) (same-itself xs)
 
-apart : true ≡ false → ⊥
-apart e = let z : _≡_ {A = ℕ} 0 1 = cc in omega arith
-
 pub same-equal : (a b : List ℕ) → same a b ≡ true → a ≡ b
 unfolding same
 same-equal [] [] e = refl
-same-equal [] (y ∷ ys) e = absurd (apart (sym e))
-same-equal (x ∷ xs) [] e = absurd (apart (sym e))
+same-equal [] (y ∷ ys) e = never e
+same-equal (x ∷ xs) [] e = never e
 same-equal (x ∷ xs) (y ∷ ys) e =
     cases (eqb x y)
     (λ (t : eqb x y ≡ true). ap₂ (λ (z : ℕ) (zs : List ℕ). z ∷ zs) (eqb-true x y t) (same-equal xs ys (simp t at e)))
-    (λ (t : eqb x y ≡ false). absurd (apart (sym (simp t at e))))
+    (λ (t : eqb x y ≡ false). never (simp t at e))
 
 pub same-differ : (a b : List ℕ) → (a ≡ b → ⊥) → same a b ≡ false
 same-differ a b ne = cases (same a b) (λ (t : same a b ≡ true). absurd (ne (same-equal a b t))) (λ (t : same a b ≡ false). t)

@@ -13,12 +13,13 @@
 --   six-locks            byte 0 = 6
 --   cleared-leaves-bytes clear that leaves the password's bytes behind its length of 0
 -- Assumes nothing.
-use mathlib.Core.Path.{_≡_, ap}
+use mathlib.Core.Path.{_≡_, sym, ap}
 use mathlib.Core.Bool.{true, false}
 use mathlib.Core.List.{List, [], _∷_}
 use Prim.Native.Nat.{ℕ}
 use native.Mathlib.Omega.{arith}
 use lib.ListN.{getD, replicate}
+use Rattle.base.proofs.Cases.{clash, never}
 use Rattle.lock.specs.Passwords.{stored, same, holding, noPassword, poweredOf, madeOf}
 use Rattle.lock.specs.Requests.{carried, oldOf, newOf, settable, presented, requestOf}
 use Rattle.lock.specs.declared.Answer.the-variants.{Granted, Erased, Failed}
@@ -31,12 +32,9 @@ unlocked = holding (7 ∷ 9 ∷ []) false
 abbrev locked : Lock
 locked = holding (7 ∷ 9 ∷ []) true
 
-apart : true ≡ false → ⊥
-apart e = let z : _≡_ {A = ℕ} 0 1 = cc in omega arith
-
 none-locked : noPassword .locked ≡ true → ⊥
 unfolding holding
-none-locked e = let z : _≡_ {A = ℕ} 0 1 = cc in omega arith
+none-locked e = clash cc
 
 none-long : noPassword .length ≡ 16 → ⊥
 unfolding holding
@@ -44,39 +42,39 @@ none-long e = omega arith
 
 powered-unlocks : poweredOf locked .locked ≡ false → ⊥
 unfolding holding poweredOf stored
-powered-unlocks e = apart e
+powered-unlocks e = never (sym e)
 
 made-unlocked : madeOf (7 ∷ 9 ∷ []) .lock .locked ≡ false → ⊥
 unfolding madeOf holding poweredOf stored
-made-unlocked e = apart e
+made-unlocked e = never (sym e)
 
 prefix-unlocks : requestOf locked (0 ∷ 1 ∷ 7 ∷ []) false .answer ≡ Granted → ⊥
 unfolding requestOf presented carried same stored holding
-prefix-unlocks e = let z : _≡_ {A = ℕ} 0 1 = cc in omega arith
+prefix-unlocks e = clash cc
 
 longer-unlocks : requestOf locked (0 ∷ 3 ∷ 7 ∷ 9 ∷ 0 ∷ []) false .answer ≡ Granted → ⊥
 unfolding requestOf presented carried same stored holding
-longer-unlocks e = let z : _≡_ {A = ℕ} 0 1 = cc in omega arith
+longer-unlocks e = clash cc
 
 set-without-old : requestOf unlocked (1 ∷ 2 ∷ 5 ∷ 5 ∷ []) false .answer ≡ Granted → ⊥
 unfolding requestOf settable oldOf newOf carried same stored holding
-set-without-old e = let z : _≡_ {A = ℕ} 0 1 = cc in omega arith
+set-without-old e = clash cc
 
 erase-unlocked : requestOf unlocked (8 ∷ []) false .answer ≡ Erased → ⊥
 unfolding requestOf holding
-erase-unlocked e = let z : _≡_ {A = ℕ} 0 1 = cc in omega arith
+erase-unlocked e = clash cc
 
 new-of-17 : requestOf unlocked (1 ∷ 19 ∷ 7 ∷ 9 ∷ replicate 17 5) false .answer ≡ Granted → ⊥
 unfolding requestOf settable oldOf newOf carried same stored holding
-new-of-17 e = let z : _≡_ {A = ℕ} 0 1 = cc in omega arith
+new-of-17 e = clash cc
 
 surplus-refused : requestOf unlocked (2 ∷ 2 ∷ 7 ∷ 9 ∷ 255 ∷ []) false .answer ≡ Failed → ⊥
 unfolding requestOf presented carried same stored holding
-surplus-refused e = let z : _≡_ {A = ℕ} 0 1 = cc in omega arith
+surplus-refused e = clash cc
 
 six-locks : requestOf unlocked (6 ∷ 2 ∷ 7 ∷ 9 ∷ []) false .answer ≡ Granted → ⊥
 unfolding requestOf holding
-six-locks e = let z : _≡_ {A = ℕ} 0 1 = cc in omega arith
+six-locks e = clash cc
 
 cleared-leaves-bytes : requestOf unlocked (2 ∷ 2 ∷ 7 ∷ 9 ∷ []) false .lock .password ≡ unlocked .password → ⊥
 unfolding requestOf presented carried same stored holding

@@ -1,4 +1,4 @@
--- A block in and a block out keep a card made, by cases on what can become of them (Outcomes.antt).
+-- A block in and a block out keep a card made, by cases on what can become of them (crates/card/proofs/Outcomes.antt).
 --   block-in-made, block-out-made
 -- Assumes nothing.
 use mathlib.Core.Path.{_≡_, refl, subst}
@@ -6,7 +6,9 @@ use mathlib.Core.Bool.{Bool, true}
 use mathlib.Core.List.{List}
 use Prim.Native.Nat.{ℕ, _+_, _*_, _/_, _≤_, _<_}
 use native.Mathlib.Omega.{arith}
+use Rattle.base.proofs.Cases.{clash}
 use Rattle.base.specs.declared.Refusal.{Refusal}
+use Rattle.card.proofs.Outcomes.{Refuses, wrong-length, wrong-crc, past-end, protected, failed, askedOf, InOutcome, unreads, refuses, stores, grants, forces, OutOutcome, unsends, past, across, sends, block-outcome, out-outcome}
 use Rattle.card.specs.BlockIn.{afterRefused, afterStored, withFault, blockRefused, blockGood, blockJudged}
 use Rattle.card.specs.BlockOut.{outRefused, outGood, afterSent, outJudged}
 use Rattle.card.specs.declared.BlockJudged.{BlockJudged}
@@ -27,10 +29,10 @@ use Rattle.status.specs.declared.ErrorBit.{ErrorBit}
 use Rattle.status.specs.declared.Errors.{Errors}
 use Rattle.status.specs.declared.Fault.{Fault}
 use Rattle.tags.specs.Tagging.{anyOf}
+use Rattle.wire.specs.Blocks.{carried}
 use Rattle.made.proofs.Locks.{request-made}
-use Rattle.made.proofs.Outcomes.{sectorOf, asked, Refuses, wrong-length, wrong-crc, past-end, protected, failed, InOutcome, unlent, unexpected, refuses, stores, grants, OutOutcome, unsends, past, across, sends, block-outcome, out-outcome}
 use Rattle.made.proofs.Pending.{set-pending}
-use Rattle.made.specs.Made.{Sends, Awaits, Waits, Pending, MadeLock, MadeLink, Made}
+use Rattle.made.specs.Made.{Sends, Awaits, Waits, Pending, MadeLink, Made}
 
 -- a link without tags goes to another state, with another lock flag and other error bits
 relinked : (groups : ℕ) (locked next : Bool) (link : Link) (state : State) (errors : Errors) → MadeLink groups locked link
@@ -71,7 +73,7 @@ refused-pending : (card : Card) (incoming : Incoming) {refusal : Refusal} {fault
     → Pending errors → Refuses card incoming refusal fault → Pending (withFault errors fault)
 refused-pending card incoming errors h wrong-length = set-pending errors (errorBit 29) refl h
 refused-pending card incoming errors h wrong-crc = h
-refused-pending card incoming errors h (past-end le) = set-pending errors (errorBit 31) refl h
+refused-pending card incoming errors h (past-end at w outside) = set-pending errors (errorBit 31) refl h
 refused-pending card incoming errors h protected = set-pending errors (errorBit 26) refl h
 refused-pending card incoming errors h failed = set-pending errors (errorBit 24) refl h
 
@@ -81,10 +83,10 @@ module _ (card : Card) (made : Made card) where
 
   -- there are tags in tran alone
   rcv-untagged : (incoming : Incoming) → card .link .state ≡ Rcv incoming → anyOf (card .link .tags) ≡ true → ⊥
-  rcv-untagged incoming on t = let tran = made .link .tagged t .0 in let z : _≡_ {A = ℕ} 0 1 = cc in omega arith
+  rcv-untagged incoming on t = let tran = made .link .tagged t .0 in clash cc
 
   data-untagged : (outgoing : Outgoing) → card .link .state ≡ Data outgoing → anyOf (card .link .tags) ≡ true → ⊥
-  data-untagged outgoing on t = let tran = made .link .tagged t .0 in let z : _≡_ {A = ℕ} 0 1 = cc in omega arith
+  data-untagged outgoing on t = let tran = made .link .tagged t .0 in clash cc
 
   -- the card with another link, and with another password record
   with-link : (state : State) (errors : Errors) → (anyOf (card .link .tags) ≡ true → ⊥) → here state → Pending errors
@@ -96,32 +98,33 @@ module _ (card : Card) (made : Made card) where
         link = relinked (card .registers .groups) (card .lock .locked) (card .lock .locked) (card .link) state errors (made .link) untagged waits pending;
       }
 
-  with-lock : (lock : Lock) → MadeLock lock → (anyOf (card .link .tags) ≡ true → ⊥) → Made (withLink (withLock card lock) (withState (card .link) Prg))
-  with-lock lock m untagged =
+  with-lock : (block : List ℕ) → card .link .state ≡ Rcv LockRequest → Made (withLink (withLock card (askedOf card block .lock)) (withState (card .link) Prg))
+  with-lock block on =
+      let lock : Lock = askedOf card block .lock in
       record {
         registers = made .registers;
-        lock = m;
-        link = relinked (card .registers .groups) (card .lock .locked) (lock .locked) (card .link) Prg (card .link .errors) (made .link) untagged tt (made .link .errors);
+        lock = request-made (card .lock) (made .lock) (carried block) (csdProtects (card .registers .csd));
+        link = relinked (card .registers .groups) (card .lock .locked) (lock .locked) (card .link) Prg (card .link .errors) (made .link) (rcv-untagged LockRequest on) tt (made .link .errors);
       }
 
   -- ---- a block in
-  in-kept : {judged : BlockJudged} → InOutcome card judged → Made (judged .stepped .card)
-  unfolding blockRefused blockGood
-  in-kept unlent = made
-  in-kept unexpected = made
-  in-kept (refuses incoming refusal fault on refused) =
-      with-link (afterRefused incoming) (withFault (card .link .errors) fault) (rcv-untagged incoming on)
-      (after-refused (card .registers .groups) (card .link .length) (card .lock .locked) incoming (subst here on (made .link .work)))
-      (refused-pending card incoming (card .link .errors) (made .link .errors) refused)
-  in-kept (stores incoming on within) =
-      with-link (afterStored incoming (sectorOf incoming * 512 + 512)) (card .link .errors) (rcv-untagged incoming on)
-      (after-stored (card .registers .groups) (card .link .length) (card .lock .locked) incoming (sectorOf incoming) (subst here on (made .link .work)) within)
-      (made .link .errors)
-  in-kept (grants payload storing on) =
-      with-lock (asked card payload) (request-made (card .lock) (made .lock) payload (csdProtects (card .registers .csd))) (rcv-untagged LockRequest on)
+  module _ (block : List ℕ) (memory : ℕ) (map : List ℕ) where
+    in-kept : {judged : BlockJudged} → InOutcome card block memory map judged → Made (judged .stepped .card)
+    unfolding blockRefused blockGood
+    in-kept (unreads n listed) = made
+    in-kept (refuses incoming refusal fault on refused) =
+        with-link (afterRefused incoming) (withFault (card .link .errors) fault) (rcv-untagged incoming on)
+        (after-refused (card .registers .groups) (card .link .length) (card .lock .locked) incoming (subst here on (made .link .work)))
+        (refused-pending card incoming (card .link .errors) (made .link .errors) refused)
+    in-kept (stores incoming at w on right) =
+        with-link (afterStored incoming (at / 512 * 512 + 512)) (card .link .errors) (rcv-untagged incoming on)
+        (after-stored (card .registers .groups) (card .link .length) (card .lock .locked) incoming (at / 512) (subst here on (made .link .work)) (right .in-range))
+        (made .link .errors)
+    in-kept (grants on granted) = with-lock block on
+    in-kept (forces on erased) = with-lock block on
 
-  pub block-in-made : (block : List ℕ) (memory : ℕ) (map : List ℕ) → Made (blockJudged card block memory map .stepped .card)
-  block-in-made block memory map = in-kept (block-outcome card block memory map)
+    pub block-in-made : Made (blockJudged card block memory map .stepped .card)
+    block-in-made = in-kept (block-outcome card block memory map)
 
   -- ---- a block out
   unsent-kept : (bit : ErrorBit) (outgoing : Outgoing) → card .link .state ≡ Data outgoing → Pending (withBit (card .link .errors) bit)
@@ -130,7 +133,7 @@ module _ (card : Card) (made : Made card) where
 
   out-kept : {judged : OutJudged} → OutOutcome card judged → Made (judged .stepped .card)
   unfolding outRefused outGood
-  out-kept (unsends refusal) = made
+  out-kept (unsends n listed) = made
   out-kept (past outgoing on) = unsent-kept (errorBit 31) outgoing on (set-pending (card .link .errors) (errorBit 31) refl (made .link .errors))
   out-kept (across outgoing on) = unsent-kept (errorBit 30) outgoing on (set-pending (card .link .errors) (errorBit 30) refl (made .link .errors))
   out-kept (sends outgoing next n sending on within) =

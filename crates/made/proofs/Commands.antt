@@ -7,12 +7,14 @@ use mathlib.Core.List.{List, [], _∷_}
 use Prim.Native.Nat.{ℕ, _+_, _/_, _%_, _≤_}
 use native.Mathlib.Omega.{arith}
 use lib.Dec.{eqb}
+use Rattle.base.proofs.Cases.{picked}
 use Rattle.base.specs.Choice.{pick}
 use Rattle.command.specs.Answers.{responseOf}
 use Rattle.command.specs.Arguments.{addressFault, lengthFault, readFault, writeFault, groupFault, argumentFault}
 use Rattle.command.specs.Command.{takenOf, commandOf}
 use Rattle.command.specs.Obey.{passesLock, leaving, eraseTagging, taggingOf, stateAt, awaitedBy, obeyed}
 use Rattle.command.specs.declared.Met.{Met}
+use Rattle.moves.proofs.Among.{All, each}
 use Rattle.moves.specs.Classes.{classOf}
 use Rattle.moves.specs.Indices.{among}
 use Rattle.moves.specs.Moves.{moveOf}
@@ -39,7 +41,6 @@ use Rattle.tags.specs.declared.Range.the-variants.{Nothing, Start, Full}
 use Rattle.made.proofs.Faults.{address-right, length-right, read-right, write-right, group-right}
 use Rattle.made.proofs.Links.{fresh-made, at-waits}
 use Rattle.made.proofs.Taken.{Meeting, asked, tagging, after, At, tran-stays, moved, unmoved, passing, addressing, gated, tagging-kept, anew, begun, still, in-tran, read-as}
-use Rattle.made.proofs.Walk.{chosen, All, each}
 use Rattle.made.specs.Made.{MadeLink}
 
 module _ (c : Meeting) where
@@ -192,7 +193,7 @@ module _ (c : Meeting) where
   -- ---- every command, row by row
   on : (index : ℕ) (indices : List ℕ) (row rest : Row) → All (λ (i : ℕ). At c i row) indices → At c index rest → At c index (pick (among index indices) row rest)
   on index indices row rest all others =
-      chosen (At c index) (among index indices) (λ t. each (λ (i : ℕ). At c i row) index indices all t) (λ t. others)
+      picked (At c index) (among index indices) (each (λ (i : ℕ). At c i row) indices all index) (λ t. others)
 
   transfers : (index : ℕ) → At c index (transferRow index)
   unfolding transferRow legal
@@ -214,7 +215,7 @@ module _ (c : Meeting) where
       (on index (9 ∷ 10 ∷ []) _ _
       (plain 9 _ refl refl refl (λ column. refl), (plain 10 _ refl refl refl (λ column. refl), tt))
       (on index (12 ∷ []) _ _ (plain 12 StopTransmission refl refl refl (λ column. refl), tt)
-      (on index (13 ∷ []) _ _ (chosen (At c 13) (own (asked c 13)) (λ t. status) (λ t. unmoved c 13 OtherAddress refl), tt)
+      (on index (13 ∷ []) _ _ (picked (At c 13) (own (asked c 13)) (λ t. status) (λ t. unmoved c 13 OtherAddress refl), tt)
       (on index (15 ∷ []) _ _ (plain 15 _ refl refl refl (λ column. refl), tt) (transfers index))))))))))
 
 pub link-made : (link : Link) (met : Met) (index argument : ℕ) → MadeLink (met .groups) (met .locked) link

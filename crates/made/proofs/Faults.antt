@@ -5,10 +5,9 @@
 use mathlib.Core.Path.{_≡_, refl}
 use mathlib.Core.Bool.{Bool, true, false, not}
 use Prim.Native.Nat.{ℕ, _+_, _/_, _%_, _≤_, _<_}
-use native.Mathlib.Omega.{arith}
 use borrow.Author.Tests.{leb-true, ltb-true, eqb-true, not-true}
 use lib.Dec.{eqb, leb, ltb}
-use Rattle.base.proofs.Cases.{passed}
+use Rattle.base.proofs.Cases.{clash, passed}
 use Rattle.base.specs.Choice.{unless}
 use Rattle.command.specs.Arguments.{addressFault, lengthFault, readFault, writeFault, groupFault}
 use Rattle.command.specs.Obey.{passesLock}
@@ -20,7 +19,7 @@ use Rattle.status.specs.declared.Fault.the-variants.{None, Bit}
 
 -- a test that would have set a bit held, and so did those behind it
 right : (t : Bool) (bit : ErrorBit) (rest : Fault) → unless t (Bit bit) rest ≡ None → (t ≡ true) × (rest ≡ None)
-right t bit rest e = passed t (Bit bit) rest None (λ (z : Bit bit ≡ None). let o : _≡_ {A = ℕ} 0 1 = cc in omega arith) e
+right t bit rest e = passed t (Bit bit) rest None (λ (z : Bit bit ≡ None). clash cc) e
 
 module _ (argument : ℕ) where
   pub address-right : addressFault argument ≡ None → 1 ≤ argument / 65536
@@ -53,5 +52,5 @@ passes true index e = e
 passes false index e = refl
 
 pub unlocked : (locked : Bool) (index : ℕ) → passesLock true index ≡ false → passesLock locked index ≡ true → locked ≡ false
-unlocked true index stopped e = let z : _≡_ {A = ℕ} 0 1 = cc in absurd (omega arith)
+unlocked true index stopped e = clash cc
 unlocked false index stopped e = refl

@@ -2,22 +2,24 @@
 --   one-block-in-range    a block in never answers number 18 there
 -- Assumes nothing.
 use mathlib.Core.Path.{_≡_, ap, _∙_, subst}
-use mathlib.Core.List.{List}
+use mathlib.Core.List.{List, [], _∷_}
 use Prim.Native.Nat.{ℕ, _<_}
 use native.Mathlib.Omega.{arith}
+use Rattle.base.proofs.Cases.{clash}
 use Rattle.base.specs.Refusals.{numberOf, by}
 use Rattle.base.specs.declared.Refusal.{Refusal}
+use Rattle.card.proofs.Outcomes.{one, only, sectors, Refuses, wrong-length, wrong-crc, past-end, protected, failed, InOutcome, unreads, refuses, stores, grants, forces, block-outcome}
 use Rattle.card.specs.BlockIn.{sectorAt, blockRefused, blockGood}
 use Rattle.card.specs.Step.{stepOf}
 use Rattle.card.specs.declared.BlockJudged.{BlockJudged}
 use Rattle.card.specs.declared.Call.the-variants.{BlockIn}
 use Rattle.card.specs.declared.Outcome.the-variants.{Refused}
+use Rattle.moves.proofs.Among.{each}
 use Rattle.record.specs.declared.Card.{Card}
 use Rattle.states.specs.declared.Incoming.{Incoming}
 use Rattle.states.specs.declared.Incoming.the-variants.{One}
 use Rattle.states.specs.declared.State.the-variants.{Rcv}
 use Rattle.status.specs.declared.Fault.{Fault}
-use Rattle.made.proofs.Outcomes.{sectors, sectorOf, Refuses, wrong-length, wrong-crc, past-end, protected, failed, InOutcome, unlent, unexpected, refuses, stores, grants, block-outcome}
 use Rattle.made.specs.Made.{Awaits, Waits, Made}
 
 module _ (card : Card) (made : Made card) (at : ℕ) (awaits : card .link .state ≡ Rcv (One at)) where
@@ -32,22 +34,24 @@ module _ (card : Card) (made : Made card) (at : ℕ) (awaits : card .link .state
       → numberOf refusal ≡ 18 → ⊥
   refusal-other incoming on wrong-length e = omega arith
   refusal-other incoming on wrong-crc e = omega arith
-  refusal-other incoming on (past-end outside) e =
-      let one : incoming ≡ One at = cc in let same : sectorOf incoming ≡ sectorAt at = ap sectorOf one in omega (arith, inside)
+  refusal-other incoming on (past-end other w outside) e =
+      let awaited : incoming ≡ One at = cc in let same : other ≡ at = only w (one at) awaited in omega (arith, inside)
   refusal-other incoming on protected e = omega arith
   refusal-other incoming on failed e = omega arith
 
   abbrev refusedBy : Refusal → BlockJudged → Type 0
   refusedBy refusal judged = judged .stepped .reply .outcome ≡ Refused refusal
 
-  not-18 : {judged : BlockJudged} (refusal : Refusal) → InOutcome card judged → refusedBy refusal judged → numberOf refusal ≡ 18 → ⊥
-  unfolding blockRefused blockGood
-  not-18 refusal unlent e n = let z : by 12 ≡ refusal = cc in omega (arith, ap numberOf z)
-  not-18 refusal unexpected e n = let z : by 15 ≡ refusal = cc in omega (arith, ap numberOf z)
-  not-18 refusal (refuses incoming other fault on why) e n = let z : other ≡ refusal = cc in refusal-other incoming on why (ap numberOf z ∙ n)
-  not-18 refusal (stores incoming on within) e n = let z : _≡_ {A = ℕ} 0 1 = cc in omega arith
-  not-18 refusal (grants payload storing on) e n = let z : _≡_ {A = ℕ} 0 1 = cc in omega arith
+  module _ (block : List ℕ) (memory : ℕ) (map : List ℕ) (refusal : Refusal) where
+    not-18 : {judged : BlockJudged} → InOutcome card block memory map judged → refusedBy refusal judged → numberOf refusal ≡ 18 → ⊥
+    unfolding blockRefused blockGood
+    not-18 (unreads n listed) e is =
+        each (λ (k : ℕ). by k ≡ refusal → ⊥) (12 ∷ 15 ∷ []) (λ z. omega (arith, ap numberOf z), (λ z. omega (arith, ap numberOf z), tt)) n listed (cc)
+    not-18 (refuses incoming other fault on why) e is = let z : other ≡ refusal = cc in refusal-other incoming on why (ap numberOf z ∙ is)
+    not-18 (stores incoming other w on right) e is = clash cc
+    not-18 (grants on granted) e is = clash cc
+    not-18 (forces on erased) e is = clash cc
 
   pub one-block-in-range : (block : List ℕ) (memory : ℕ) (map : List ℕ) (room : ℕ) (refusal : Refusal)
       → stepOf card BlockIn block memory map room .reply .outcome ≡ Refused refusal → numberOf refusal ≡ 18 → ⊥
-  one-block-in-range block memory map room refusal = not-18 refusal (block-outcome card block memory map)
+  one-block-in-range block memory map room refusal = not-18 block memory map refusal (block-outcome card block memory map)

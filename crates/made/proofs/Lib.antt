@@ -4,11 +4,9 @@ pub mod Faults
 pub mod InRange
 pub mod Links
 pub mod Locks
-pub mod Outcomes
 pub mod Pending
 pub mod Reached
 pub mod Registers
 pub mod Run
 pub mod Stays
 pub mod Taken
-pub mod Walk

@@ -10,6 +10,7 @@ use mathlib.Core.Bool.{Bool}
 use Prim.Native.Nat.{ℕ}
 use native.Mathlib.Omega.{arith}
 use lib.Dec.{eqb}
+use Rattle.base.proofs.Cases.{picked, never}
 use Rattle.command.specs.Answers.{leftOf}
 use Rattle.command.specs.Command.{damagedLink}
 use Rattle.command.specs.Obey.{stateAt}
@@ -26,7 +27,6 @@ use Rattle.status.specs.ErrorBits.{errorBit}
 use Rattle.status.specs.Status.{withBit}
 use Rattle.status.specs.declared.Errors.{Errors}
 use Rattle.made.proofs.Pending.{none-pending, set-pending, taken-pending}
-use Rattle.made.proofs.Walk.{never, chosen}
 use Rattle.made.specs.Made.{Waits, Pending, MadeLink}
 
 pub fresh-made : (groups : ℕ) (locked : Bool) → MadeLink groups locked freshLink
@@ -41,7 +41,7 @@ errors-made groups locked link errors made pending =
 pub damaged-made : (groups : ℕ) (locked : Bool) (link : Link) → MadeLink groups locked link → MadeLink groups locked (damagedLink link)
 unfolding damagedLink
 damaged-made groups locked link made =
-    chosen (MadeLink groups locked) (eqb (numberOf (columnOf (link .state))) 9) (λ t. made)
+    picked (MadeLink groups locked) (eqb (numberOf (columnOf (link .state))) 9) (λ t. made)
     (λ t. errors-made groups locked link (withBit (link .errors) (errorBit 23)) made (set-pending (link .errors) (errorBit 23) refl (made .errors)))
 
 pub at-waits : (groups length : ℕ) (locked : Bool) (column : Column) (work : State) → Waits groups length locked work → Waits groups length locked (stateAt column work)

@@ -4,7 +4,7 @@
 --   powered-made    after power-on
 --   request-made    after any lock request
 -- Assumes nothing.
-use mathlib.Core.Path.{_≡_, sym, ap, _∙_}
+use mathlib.Core.Path.{_≡_, refl, sym, ap, _∙_}
 use mathlib.Core.Bool.{Bool, true, false, not}
 use mathlib.Core.List.{List, [], _++_}
 use Prim.Native.Nat.{ℕ, _-_, _≤_}
@@ -12,16 +12,16 @@ use native.Mathlib.Omega.{arith}
 use borrow.Author.Tests.{leb-true}
 use lib.Dec.{leb}
 use lib.ListN.{length, take, replicate, getD, take-append-drop}
-use Rattle.base.proofs.Cases.{passed}
+use Rattle.base.proofs.Cases.{guarded, never}
+use Rattle.lock.proofs.Carried.{new-length, presented-parts, settable-parts}
 use Rattle.lock.proofs.Stored.{stored-length, zeros-behind}
 use Rattle.lock.specs.Passwords.{stored, holding, noPassword, flagged, poweredOf, madeOf}
-use Rattle.lock.specs.Requests.{askedBy, whole, newOf, settable, presented, allowed, grantedIf, doneOf, requestOf}
+use Rattle.lock.specs.Requests.{askedBy, newOf, settable, presented, allowed, grantedIf, doneOf, requestOf}
 use Rattle.lock.specs.declared.Asked.{Asked}
 use Rattle.lock.specs.declared.Asked.the-variants.{Unlock, Set, Clear, Lock as ToLock, SetAndLock, ForcedErase, Unknown}
 use Rattle.lock.specs.declared.Lock.{Lock}
 use Rattle.lock.specs.declared.Made.{Made as LockMade}
 use Rattle.lock.specs.declared.Requested.{Requested}
-use Rattle.made.proofs.Walk.{never, judged}
 use Rattle.made.specs.Made.{MadeLock}
 
 pub holding-made : (bytes : List ℕ) (locked : Bool) → length bytes ≤ 16 → (locked ≡ true → 1 ≤ length bytes) → MadeLock (holding bytes locked)
@@ -56,44 +56,35 @@ module _ (lock : Lock) (made : MadeLock lock) where
 
   -- a granted or failed request
   granted : (test : Bool) (next : Lock) → (test ≡ true → MadeLock next) → MadeLock (grantedIf test lock next .lock)
-  granted test next good = judged (λ (r : Requested). MadeLock (r .lock)) test (λ e. made) good
+  granted test next good = guarded (λ (r : Requested). MadeLock (r .lock)) test (λ e. made) good
 
   set-made : (payload : List ℕ) (locked : Bool) → settable lock payload ≡ true → MadeLock (holding (newOf lock payload) locked)
-  unfolding settable
   set-made payload locked t =
-      let new : List ℕ = newOf lock payload in
-      let whole-block = passed (whole payload) false _ true never t in
-      let some = passed (leb 1 (length new)) false _ true never (whole-block .1) in
-      let few = passed (leb (length new) 16) false _ true never (some .1) in
-      holding-made new locked (leb-true (length new) 16 (few .0)) (λ e. leb-true 1 (length new) (some .0))
-
-  presented-some : (payload : List ℕ) → presented lock payload ≡ true → 1 ≤ length (stored lock)
-  unfolding presented
-  presented-some payload t =
-      let whole-block = passed (whole payload) false _ true never t in
-      leb-true 1 (length (stored lock)) (passed (leb 1 (length (stored lock))) false _ true never (whole-block .1) .0)
+      let parts = settable-parts lock payload (length (stored lock)) refl t in
+      let long = new-length lock payload (length (stored lock)) refl (parts .0) in
+      holding-made (newOf lock payload) locked (omega arith) (λ e. omega arith)
 
   done-made : (asked : Asked) (payload : List ℕ) (protected : Bool) → MadeLock (doneOf asked lock payload protected .lock)
   done-made Unlock payload protected =
-      granted (presented lock payload) (flagged lock false) (λ t. flagged-made false (λ e. presented-some payload t))
+      granted (presented lock payload) (flagged lock false) (λ t. flagged-made false (λ e. presented-parts lock payload t .0))
   done-made Set payload protected = granted (settable lock payload) _ (set-made payload (lock .locked))
   done-made Clear payload protected = granted (presented lock payload) noPassword (λ t. none-made)
   done-made ToLock payload protected =
-      granted (presented lock payload) (flagged lock true) (λ t. flagged-made true (λ e. presented-some payload t))
+      granted (presented lock payload) (flagged lock true) (λ t. flagged-made true (λ e. presented-parts lock payload t .0))
   done-made SetAndLock payload protected = granted (settable lock payload) _ (set-made payload true)
-  done-made ForcedErase payload protected = judged (λ (r : Requested). MadeLock (r .lock)) (not protected) (λ e. made) (λ e. none-made)
+  done-made ForcedErase payload protected = guarded (λ (r : Requested). MadeLock (r .lock)) (not protected) (λ e. made) (λ e. none-made)
   done-made Unknown payload protected = made
 
   pub request-made : (payload : List ℕ) (protected : Bool) → MadeLock (requestOf lock payload protected .lock)
   unfolding requestOf
   request-made payload protected =
-      judged (λ (r : Requested). MadeLock (r .lock)) (leb 1 (length payload)) (λ e. made)
+      guarded (λ (r : Requested). MadeLock (r .lock)) (leb 1 (length payload)) (λ e. made)
       (λ e.
-      judged (λ (r : Requested). MadeLock (r .lock)) (allowed (getD payload 0 0) (lock .locked)) (λ e. made)
+      guarded (λ (r : Requested). MadeLock (r .lock)) (allowed (getD payload 0 0) (lock .locked)) (λ e. made)
       (λ e. done-made (askedBy (getD payload 0 0)) payload protected))
 
 pub made-made : (password : List ℕ) → MadeLock (madeOf password .lock)
 unfolding madeOf
 made-made password =
-    judged (λ (m : LockMade). MadeLock (m .lock)) (leb (length password) 16) (λ e. none-made)
+    guarded (λ (m : LockMade). MadeLock (m .lock)) (leb (length password) 16) (λ e. none-made)
     (λ e. powered-made (holding password false) (holding-made password false (leb-true (length password) 16 e) (λ e. never e)))

@@ -4,6 +4,7 @@
 --   run-registers      which has the registers that it had
 --   run-lengths        memory and map keep their lengths
 --   memory-length, map-length    in one call
+--   kept-length        what judging keeps of a block is a sector
 -- Assumes nothing.
 use mathlib.Core.Path.{_≡_, refl, _∙_}
 use mathlib.Core.List.{List, [], _∷_}
@@ -32,7 +33,8 @@ use Rattle.made.specs.Made.{Made}
 use Rattle.made.specs.Run.{World, Input, next, runOf, begun}
 
 -- ---- lengths
-kept-length : (block : List ℕ) → length (keptOf block) ≡ 512
+-- what judging keeps of a block is a sector
+pub kept-length : (block : List ℕ) → length (keptOf block) ≡ 512
 unfolding keptOf
 kept-length block = simp (length-append, length-take, length-replicate) (omega arith)
 

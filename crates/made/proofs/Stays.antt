@@ -5,15 +5,17 @@
 --   damage-made     and every damaged frame
 -- Assumes nothing.
 use mathlib.Core.Path.{_≡_, refl, ap, _∙_}
-use mathlib.Core.Bool.{Bool, true, false, not, _&&_}
+use mathlib.Core.Bool.{Bool, true, not}
 use mathlib.Core.List.{List}
-use Prim.Native.Nat.{ℕ, _/_, _%_}
+use Prim.Native.Nat.{ℕ, _/_}
 use native.Mathlib.Omega.{arith}
-use borrow.Author.Tests.{eqb-true, eqb-false, not-true}
-use lib.Dec.{eqb, leb}
+use borrow.Author.Tests.{eqb-false, not-true}
+use lib.Dec.{eqb}
 use lib.ListN.{length}
+use Rattle.base.proofs.Cases.{guarded, clash}
 use Rattle.base.specs.Refusals.{by}
 use Rattle.base.specs.declared.Refusal.{Refusal}
+use Rattle.card.proofs.Outcomes.{FrameOutcome, unheard, damaged, commands, frame-outcome, told}
 use Rattle.card.specs.Frame.{frameJudged, spares, sparedTold, frameOf}
 use Rattle.card.specs.Step.{stepOf}
 use Rattle.card.specs.declared.Call.{Call}
@@ -37,6 +39,7 @@ use Rattle.states.specs.declared.State.{State}
 use Rattle.states.specs.declared.State.the-variants.{Idle, Ready, Ident, Stby, Tran, Data, Rcv, Prg, Dis, Ina}
 use Rattle.status.specs.ErrorBits.{errorBit}
 use Rattle.status.specs.Status.{withBit}
+use Rattle.store.proofs.Sectors.{allowed-size}
 use Rattle.store.specs.Map.{mapRight}
 use Rattle.store.specs.Memory.{sizeAllowed}
 use Rattle.wire.specs.Responses.{registerRight}
@@ -44,9 +47,7 @@ use Rattle.made.proofs.Blocks.{block-in-made, block-out-made}
 use Rattle.made.proofs.Commands.{link-made}
 use Rattle.made.proofs.Links.{fresh-made, errors-made, damaged-made}
 use Rattle.made.proofs.Locks.{made-made, powered-made}
-use Rattle.made.proofs.Outcomes.{FrameOutcome, refused, damaged, commands, frame-outcome}
 use Rattle.made.proofs.Pending.{set-pending}
-use Rattle.made.proofs.Walk.{judged, last}
 use Rattle.made.specs.Made.{Waits, MadeRegisters, MadeLock, Made, metBy}
 
 -- ---- commands
@@ -68,14 +69,14 @@ damage-made card made =
 
 -- ---- frames
 module _ (card : Card) (made : Made card) where
-  judged-made : {judged : FrameJudged} → FrameOutcome card judged → Made (judged .stepped .card)
-  judged-made (refused refusal) = made
-  judged-made damaged = damage-made card made
-  judged-made (commands index argument) = command-made card true index argument made
+  judged-made : (frame : List ℕ) (memory : ℕ) (map : List ℕ) {judged : FrameJudged} → FrameOutcome card frame memory map judged → Made (judged .stepped .card)
+  judged-made frame memory map (unheard n listed) = made
+  judged-made frame memory map damaged = damage-made card made
+  judged-made frame memory map (commands index argument is lent) = command-made card true index argument made
 
   -- with bit 15, where an erase spared a sector
-  told-made : (stepped : Stepped) (spared : Bool) → Made (stepped .card) → Made (sparedTold stepped spared .card)
-  told-made stepped true m =
+  spared-made : (stepped : Stepped) → Made (stepped .card) → Made (sparedTold stepped true .card)
+  spared-made stepped m =
       let next : Card = stepped .card in
       record {
         registers = m .registers;
@@ -83,13 +84,13 @@ module _ (card : Card) (made : Made card) where
         link = errors-made (next .registers .groups) (next .lock .locked) (next .link) (withBit (next .link .errors) (errorBit 15)) (m .link)
             (set-pending (next .link .errors) (errorBit 15) refl (m .link .errors));
       }
-  told-made stepped false m = m
 
   frame-made : (frame : List ℕ) (memory : ℕ) (map : List ℕ) → Made (frameOf card frame memory map .card)
   unfolding frameOf
   frame-made frame memory map =
-      told-made (frameJudged card frame memory map .stepped) (spares card memory map (frameJudged card frame memory map .change))
-      (judged-made (frame-outcome card frame memory map))
+      let stepped : Stepped = frameJudged card frame memory map .stepped in
+      let m : Made (stepped .card) = judged-made frame memory map (frame-outcome card frame memory map) in
+      told (λ (s : Stepped). Made (s .card)) stepped (spares card memory map (frameJudged card frame memory map .change)) (spared-made stepped m) m
 
 -- ---- work done and power-on
 worked-waits : (groups length : ℕ) (locked : Bool) (state : State) → Waits groups length locked state → Waits groups length locked (workedState state)
@@ -141,7 +142,7 @@ step-made card PowerOn input memory map room made = powered-on-made card made
 module _ (registers : Registers) (right : MadeRegisters registers) where
   locked-by-made : (lock : Lock) (making : LockMaking) → MadeLock lock → lockedBy registers lock making .making ≡ Done → Made (lockedBy registers lock making .card)
   locked-by-made lock LockDone m e = record { registers = right; lock = m; link = fresh-made (registers .groups) (lock .locked) }
-  locked-by-made lock (LockRefused refusal) m e = let z : _≡_ {A = ℕ} 0 1 = cc in absurd (omega arith)
+  locked-by-made lock (LockRefused refusal) m e = clash cc
 
   password-made : (password : List ℕ) → passwordMade registers password .making ≡ Done → Made (passwordMade registers password .card)
   unfolding passwordMade
@@ -152,26 +153,25 @@ abbrev Makes : MadeOf → Type 0
 Makes made = made .making ≡ Done → Made (made .card)
 
 refused-makes : (refusal : Refusal) → Makes (failedMake refusal)
-refused-makes refusal e = let z : _≡_ {A = ℕ} 0 1 = cc in absurd (omega arith)
+refused-makes refusal e = clash cc
 
 -- an allowed size is one of whole protection groups
 whole-groups : (memory : ℕ) → sizeAllowed memory ≡ true → sizeOf (memory / 8192) ≡ memory
-whole-groups memory allowed =
-    omega (arith, eqb-true (memory % 8192) 0 (last (leb 8192 memory && leb memory 33554432) (eqb (memory % 8192) 0) allowed))
+whole-groups memory allowed = omega (arith, allowed-size memory allowed .2)
 
 pub make-made : (cid csd : List ℕ) (ocr : ℕ) (password : List ℕ) (memory : ℕ) (map : List ℕ)
     → madeOf cid csd ocr password memory map .making ≡ Done → Made (madeOf cid csd ocr password memory map .card)
 unfolding madeOf
 make-made cid csd ocr password memory map =
-    judged Makes (sizeAllowed memory) (λ e. refused-makes (by 7))
+    guarded Makes (sizeAllowed memory) (λ e. refused-makes (by 7))
     (λ allowed.
-    judged Makes (mapRight map (memory / 8192)) (λ e. refused-makes (by 8))
+    guarded Makes (mapRight map (memory / 8192)) (λ e. refused-makes (by 8))
     (λ e.
-    judged Makes (registerRight cid) (λ e. refused-makes (by 9))
+    guarded Makes (registerRight cid) (λ e. refused-makes (by 9))
     (λ cid-right.
-    judged Makes (registerRight csd) (λ e. refused-makes (by 9))
+    guarded Makes (registerRight csd) (λ e. refused-makes (by 9))
     (λ csd-right.
-    judged Makes (not (eqb (window ocr) 0)) (λ e. refused-makes (by 10))
+    guarded Makes (not (eqb (window ocr) 0)) (λ e. refused-makes (by 10))
     (λ some.
     let windowed : window ocr ≡ 0 → ⊥ = eqb-false (window ocr) 0 (not-true (eqb (window ocr) 0) some) in
     password-made (record { cid = cid; csd = csd; ocr = ocr; groups = memory / 8192 })

@@ -11,6 +11,7 @@ use mathlib.Core.List.{[]}
 use Prim.Native.Nat.{ℕ, _≤_}
 use borrow.Author.Tests.{le-leb}
 use lib.Dec.{eqb}
+use Rattle.base.proofs.Cases.{guarded, never}
 use Rattle.command.specs.Answers.{responseOf, answered}
 use Rattle.command.specs.Command.{askedOf, resetTold, concluded, takenOf, movedBy}
 use Rattle.command.specs.Obey.{dropsTags, passesLock, taggingOf, judgedOf, stateAt, obeyed}
@@ -45,7 +46,6 @@ use Rattle.tags.specs.declared.Tags.{Tags}
 use Rattle.made.proofs.Faults.{passes, unlocked}
 use Rattle.made.proofs.Links.{errors-made, at-waits, left-pending}
 use Rattle.made.proofs.Pending.{none-pending, set-pending}
-use Rattle.made.proofs.Walk.{never, judged}
 use Rattle.made.specs.Made.{Waits, Pending, MadeLink}
 
 pub record Meeting : Type 0 where
@@ -100,8 +100,8 @@ module _ (c : Meeting) where
   told-pending : (index : ℕ) → Pending (resetTold (c .link) index)
   unfolding resetTold
   told-pending index =
-      judged Pending (dropsTags index) (λ t. c .made .errors)
-      (λ t. judged Pending (anyOf (c .link .tags)) (λ u. c .made .errors) (λ u. set-pending (c .link .errors) (errorBit 13) refl (c .made .errors)))
+      guarded Pending (dropsTags index) (λ t. c .made .errors)
+      (λ t. guarded Pending (anyOf (c .link .tags)) (λ u. c .made .errors) (λ u. set-pending (c .link .errors) (errorBit 13) refl (c .made .errors)))
 
   obeyed-kept : (index : ℕ) (row : Row) (column : Column) (tags : Tags) → Right c (after c index column tags)
       → Kept c (concluded (c .link) (c .met) (asked c index) row column tags None)
@@ -178,7 +178,7 @@ module _ (c : Meeting) where
   unfolding judgedOf
   stopped-kept index row column other stop r1 right =
       taken-kept index row column (judgedOf (c .link) (c .met .groups) (c .met .locked) index (c .argument)) other refl
-      (judged (Concluded c index row column) (passesLock (c .met .locked) index) (λ t. faulted-kept index row column (errorBit 24) r1)
+      (guarded (Concluded c index row column) (passesLock (c .met .locked) index) (λ t. faulted-kept index row column (errorBit 24) r1)
       (λ t. right (unlocked (c .met .locked) index stop t)))
 
   pub gated : (index : ℕ) (row : Row) (fault : Fault) → eqb index 0 ≡ false → passesLock true index ≡ false → responseOf row ≡ R1

@@ -11,6 +11,7 @@ use mathlib.Core.List.{List, [], _∷_}
 use Prim.Native.Nat.{ℕ, _+_, _*_, _/_, _%_}
 use native.Mathlib.Omega.{arith}
 use lib.ListN.{getD}
+use Rattle.base.proofs.Cases.{clash}
 use Rattle.base.specs.Refusals.{by}
 use Rattle.card.specs.Frame.{frameJudged, frameOf as cardFrameOf}
 use Rattle.card.specs.Sent.{sentBytes}
@@ -45,7 +46,7 @@ unfolding cardIn holding freshLink cardFrameOf frameJudged entriesRight commandO
 marked-hold = (refl, (refl, (refl, (refl, (refl, (refl, (refl, (refl, tt))))))))
 
 pub refusing : (reply : Card → List ℕ → List ℕ) (sum : List ℕ → ℕ) (n : ℕ) → all (λ f. Refused (by n)) reply sum marked → ⊥
-refusing reply sum n h = let e = h .0 in let z : _≡_ {A = ℕ} 0 1 = cc in omega arith
+refusing reply sum n h = let e = h .0 in clash cc
 
 -- the framing with every CRC7 taken for right
 abbrev blind : Framing → Frame
@@ -54,7 +55,7 @@ blind (Unframed r) = Refused r
 
 pub accepting : (reply : Card → List ℕ → List ℕ) (sum : List ℕ → ℕ) → all (λ f. blind (framingOf f)) reply sum marked → ⊥
 unfolding framingOf sentOf crc7Of remainder divide bits
-accepting reply sum h = let e = h .1 .1 .1 .1 .1 .0 in let z : _≡_ {A = ℕ} 0 1 = cc in omega arith
+accepting reply sum h = let e = h .1 .1 .1 .1 .1 .0 in clash cc
 
 pub one-answer : (read : List ℕ → Frame) (line : List ℕ) (sum : List ℕ → ℕ) → all read (λ c f. line) sum marked → ⊥
 one-answer read line sum h =

@@ -10,16 +10,15 @@ use mathlib.Core.Path.{_≡_, refl, subst}
 use mathlib.Core.Bool.{Bool, true, false}
 use mathlib.Core.List.{List, [], _∷_}
 use Prim.Native.Nat.{ℕ, _<_}
-use native.Mathlib.Omega.{arith}
-use borrow.Author.Tests.{eqb-true}
 use lib.Bits.{bitAnd}
 use lib.Dec.{T, eqb, ltb}
-use Rattle.base.proofs.Cases.{cases}
+use Rattle.base.proofs.Cases.{picked}
 use Rattle.base.proofs.Span.{below}
 use Rattle.base.specs.Choice.{pick}
 use Rattle.states.specs.States.{numberOf}
 use Rattle.states.specs.declared.Column.{Column}
 use Rattle.states.specs.declared.Column.the-variants.{Tran, Data, Rcv, Prg, Ina}
+use Rattle.moves.proofs.Among.{each}
 use Rattle.moves.proofs.Orders.{moveNumber, movesNumbered, rowsNumbered, everywhere}
 use Rattle.moves.proofs.Spans.{told}
 use Rattle.moves.specs.Classes.{classOf, classNumber}
@@ -102,38 +101,25 @@ unfolding moveOf
 row-never-illegal row column h e =
     subst (λ (b : Bool). T (pick b false true)) h (illegal-only others (everywhere othersOnly tt) row column e)
 
-op-cond-identifies : (asked held : ℕ) → inRow (opCondRow asked held) identifying ≡ true
-op-cond-identifies asked held =
-    cases (eqb asked 0)
-    (λ (t : eqb asked 0 ≡ true). simp t)
-    (λ (t : eqb asked 0 ≡ false).
-    cases (ltb 0 (bitAnd asked held))
-    (λ (u : ltb 0 (bitAnd asked held) ≡ true). simp (t, u))
-    (λ (u : ltb 0 (bitAnd asked held) ≡ false). simp (t, u)))
+abbrev Identifies : Row → Type 0
+Identifies row = inRow row identifying ≡ true
 
-cid-identifies : (wins : Bool) → inRow (cidRow wins) identifying ≡ true
-cid-identifies true = refl
-cid-identifies false = refl
+op-cond-identifies : (asked held : ℕ) → Identifies (opCondRow asked held)
+op-cond-identifies asked held =
+    picked Identifies (eqb asked 0) (λ t. refl) (λ t. picked Identifies (ltb 0 (bitAnd asked held)) (λ u. refl) (λ u. refl))
+
+cid-identifies : (wins : Bool) → Identifies (cidRow wins)
+cid-identifies wins = picked Identifies wins (λ t. refl) (λ t. refl)
 
 module _ (argument address ocr : ℕ) (wins : Bool) where
   abbrev at : ℕ → Asked
   at i = record { index = i; argument = argument; address = address; ocr = ocr; wins = wins }
 
-  identifies : (i : ℕ) → among i (1 ∷ 2 ∷ 3 ∷ 4 ∷ []) ≡ true → inRow (rowOf (at i)) identifying ≡ true
+  identifies : (i : ℕ) → among i (1 ∷ 2 ∷ 3 ∷ 4 ∷ []) ≡ true → Identifies (rowOf (at i))
   unfolding rowOf
-  identifies i h =
-      cases (eqb i 1)
-      (λ (t : eqb i 1 ≡ true). rw (eqb-true i 1 t) (op-cond-identifies (window argument) (window ocr)))
-      (λ (t : eqb i 1 ≡ false).
-      cases (eqb i 2)
-      (λ (u : eqb i 2 ≡ true). rw (eqb-true i 2 u) (cid-identifies wins))
-      (λ (u : eqb i 2 ≡ false).
-      cases (eqb i 3)
-      (λ (v : eqb i 3 ≡ true). rw (eqb-true i 3 v))
-      (λ (v : eqb i 3 ≡ false).
-      cases (eqb i 4)
-      (λ (w : eqb i 4 ≡ true). rw (eqb-true i 4 w))
-      (λ (w : eqb i 4 ≡ false). let z : _≡_ {A = ℕ} 0 1 = cc (simp (t, u, v, w) at h) in absurd (omega arith)))))
+  identifies i =
+      each (λ (k : ℕ). Identifies (rowOf (at k))) (1 ∷ 2 ∷ 3 ∷ 4 ∷ [])
+      (op-cond-identifies (window argument) (window ocr), (cid-identifies wins, (refl, (refl, tt)))) i
 
   abbrev last : ℕ → Bool
   last i = pick (eqb (classNumber (classOf i)) (classNumber class.Unsupported)) (eqb (rowNumber (rowOf (at i))) (rowNumber Unsupported)) true

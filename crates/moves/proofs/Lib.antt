@@ -1,3 +1,4 @@
+pub mod Among
 pub mod Laws
 pub mod Orders
 pub mod Spans

@@ -19,7 +19,7 @@
 use mathlib.Core.Path.{_≡_}
 use mathlib.Core.Bool.{true}
 use Prim.Native.Nat.{ℕ}
-use native.Mathlib.Omega.{arith}
+use Rattle.base.proofs.Cases.{clash}
 use Rattle.states.specs.declared.Column.the-variants.{Idle, Ready, Stby, Tran, Rcv, Dis, Ina}
 use Rattle.moves.specs.Classes.{classOf}
 use Rattle.moves.specs.Moves.{moveOf}
@@ -35,48 +35,48 @@ sent index argument = record { index = index; argument = argument; address = 1; 
 
 untag-has-a-class : classOf 34 ≡ Erase → ⊥
 unfolding classOf
-untag-has-a-class e = let z : _≡_ {A = ℕ} 0 1 = cc in omega arith
+untag-has-a-class e = clash cc
 
 stream-has-a-class : classOf 11 ≡ Basic → ⊥
 unfolding classOf
-stream-has-a-class e = let z : _≡_ {A = ℕ} 0 1 = cc in omega arith
+stream-has-a-class e = clash cc
 
 stop-in-dis : moveOf StopTransmission Dis ≡ To Tran → ⊥
 unfolding moveOf
-stop-in-dis e = let z : _≡_ {A = ℕ} 0 1 = cc in omega arith
+stop-in-dis e = clash cc
 
 illegal-in-stby : moveOf Read Stby ≡ Illegal → ⊥
 unfolding moveOf
-illegal-in-stby e = let z : _≡_ {A = ℕ} 0 1 = cc in omega arith
+illegal-in-stby e = clash cc
 
 deselect-in-rcv : moveOf DeselectCard Rcv ≡ Illegal → ⊥
 unfolding moveOf
-deselect-in-rcv e = let z : _≡_ {A = ℕ} 0 1 = cc in omega arith
+deselect-in-rcv e = clash cc
 
 address-in-ready : moveOf SetRelativeAddr Ready ≡ To Stby → ⊥
 unfolding moveOf
-address-in-ready e = let z : _≡_ {A = ℕ} 0 1 = cc in omega arith
+address-in-ready e = clash cc
 
 inactive-reset : moveOf GoIdleState Ina ≡ To Idle → ⊥
 unfolding moveOf
-inactive-reset e = let z : _≡_ {A = ℕ} 0 1 = cc in omega arith
+inactive-reset e = clash cc
 
 window-of-32-bits : rowOf (sent 1 0xFF000000) ≡ OpCondApart → ⊥
 unfolding rowOf
-window-of-32-bits e = let z : _≡_ {A = ℕ} 0 1 = cc in omega arith
+window-of-32-bits e = clash cc
 
 ocr-of-32-bits : rowOf (sent 1 0x80000001) ≡ OpCondShared → ⊥
 unfolding rowOf
-ocr-of-32-bits e = let z : _≡_ {A = ℕ} 0 1 = cc in omega arith
+ocr-of-32-bits e = clash cc
 
 address-in-the-low-half : rowOf (sent 13 0x00000001) ≡ SendStatus → ⊥
 unfolding rowOf
-address-in-the-low-half e = let z : _≡_ {A = ℕ} 0 1 = cc in omega arith
+address-in-the-low-half e = clash cc
 
 select-for-all : rowOf (sent 7 0x00000000) ≡ SelectCard → ⊥
 unfolding rowOf
-select-for-all e = let z : _≡_ {A = ℕ} 0 1 = cc in omega arith
+select-for-all e = clash cc
 
 status-of-another : rowOf (sent 13 0x00020000) ≡ SendStatus → ⊥
 unfolding rowOf
-status-of-another e = let z : _≡_ {A = ℕ} 0 1 = cc in omega arith
+status-of-another e = clash cc

@@ -24,12 +24,13 @@
 --   made-never             a make that refuses all
 --   refused-keeps-cid, refused-idle    a refused make that returns the CID it was given, or a card in Idle
 -- Assumes nothing.
-use mathlib.Core.Path.{_≡_, ap}
+use mathlib.Core.Path.{_≡_, sym, ap}
 use mathlib.Core.Bool.{true, false}
 use mathlib.Core.List.{List, [], _∷_, _++_}
 use Prim.Native.Nat.{ℕ}
 use native.Mathlib.Omega.{arith}
 use lib.ListN.{getD, replicate, set}
+use Rattle.base.proofs.Cases.{clash, never}
 use Rattle.base.specs.Refusals.{by}
 use Rattle.crc.specs.Bits.{bits}
 use Rattle.crc.specs.Crc.{divide, remainder}
@@ -66,9 +67,6 @@ busy s =
 abbrev made : ℕ → List ℕ → ℕ → Made
 made ocr password memory = madeOf zeros zeros ocr password memory (0 ∷ [])
 
-apart : true ≡ false → ⊥
-apart e = let z : _≡_ {A = ℕ} 0 1 = cc in omega arith
-
 -- ---- what is read off a record
 size-in-sectors : sizeOf 1 ≡ 512 → ⊥
 size-in-sectors e = omega arith
@@ -77,19 +75,19 @@ size-wraps : sizeOf 8 ≡ 0 → ⊥
 size-wraps e = omega arith
 
 csd-by-14 : csdProtects (set zeros 14 0x40) ≡ true → ⊥
-csd-by-14 e = let z : _≡_ {A = ℕ} 0 1 = cc in omega arith
+csd-by-14 e = clash cc
 
 csd-permanent-alone : csdProtects (set zeros 14 0x10) ≡ false → ⊥
-csd-permanent-alone e = apart e
+csd-permanent-alone e = never (sym e)
 
 csd-lowest-first : csdProtects (set zeros 1 0x20) ≡ true → ⊥
-csd-lowest-first e = let z : _≡_ {A = ℕ} 0 1 = cc in omega arith
+csd-lowest-first e = clash cc
 
 crosses-at-end : crosses 1536 512 ≡ true → ⊥
-crosses-at-end e = let z : _≡_ {A = ℕ} 0 1 = cc in omega arith
+crosses-at-end e = clash cc
 
 crosses-unseen : crosses 1537 512 ≡ false → ⊥
-crosses-unseen e = apart e
+crosses-unseen e = never (sym e)
 
 length-zero : lengthRead 0 ≡ 0 → ⊥
 length-zero e = omega arith
@@ -112,23 +110,23 @@ powered-keeps-address e = omega arith
 
 powered-keeps-tags : poweredOn (busy Tran) .link .tags .range ≡ Start Sectors 3 → ⊥
 unfolding poweredOn freshLink
-powered-keeps-tags e = let z : _≡_ {A = ℕ} 0 1 = cc in omega arith
+powered-keeps-tags e = clash cc
 
 powered-unlocked : poweredOn (busy Tran) .lock .locked ≡ false → ⊥
 unfolding poweredOn poweredOf stored holding
-powered-unlocked e = apart e
+powered-unlocked e = never (sym e)
 
 powered-inactive : poweredOn (busy Ina) .link .state ≡ Ina → ⊥
 unfolding poweredOn freshLink
-powered-inactive e = let z : _≡_ {A = ℕ} 0 1 = cc in omega arith
+powered-inactive e = clash cc
 
 worked-rcv : worked (busy (Rcv (One 512))) .link .state ≡ Tran → ⊥
 unfolding worked
-worked-rcv e = let z : _≡_ {A = ℕ} 0 1 = cc in omega arith
+worked-rcv e = clash cc
 
 worked-dis : worked (busy Dis) .link .state ≡ Tran → ⊥
 unfolding worked
-worked-dis e = let z : _≡_ {A = ℕ} 0 1 = cc in omega arith
+worked-dis e = clash cc
 
 worked-clears : worked (busy Prg) .link .errors .bits ≡ 0 → ⊥
 unfolding worked
@@ -137,36 +135,36 @@ worked-clears e = omega arith
 -- ---- making
 made-8191 : made 0x00FF8000 [] 8191 .making ≡ Done → ⊥
 unfolding madeOf
-made-8191 e = let z : _≡_ {A = ℕ} 0 1 = cc in omega arith
+made-8191 e = clash cc
 
 made-17 : made 0x00FF8000 (replicate 17 5) 8192 .making ≡ Done → ⊥
 unfolding madeOf passwordMade lockMadeOf entriesRight registerRight lastByte crc7Of remainder divide bits
-made-17 e = let z : _≡_ {A = ℕ} 0 1 = cc in omega arith
+made-17 e = clash cc
 
 made-by-high-bits : made 0x80000000 [] 8192 .making ≡ Done → ⊥
 unfolding madeOf entriesRight registerRight lastByte crc7Of remainder divide bits
-made-by-high-bits e = let z : _≡_ {A = ℕ} 0 1 = cc in omega arith
+made-by-high-bits e = clash cc
 
 made-map-first : madeOf zeros zeros 0x00FF8000 [] 8191 (2 ∷ []) .making ≡ Refused (by 8) → ⊥
 unfolding madeOf
-made-map-first e = let z : _≡_ {A = ℕ} 0 1 = cc in omega arith
+made-map-first e = clash cc
 
 made-csd-unread : madeOf zeros (replicate 16 0) 0x00FF8000 [] 8192 (0 ∷ []) .making ≡ Done → ⊥
 unfolding madeOf entriesRight registerRight lastByte crc7Of remainder divide bits
-made-csd-unread e = let z : _≡_ {A = ℕ} 0 1 = cc in omega arith
+made-csd-unread e = clash cc
 
 made-unlocked : made 0x00FF8000 (7 ∷ 9 ∷ []) 8192 .card .lock .locked ≡ false → ⊥
 unfolding madeOf passwordMade lockMadeOf poweredOf stored holding entriesRight registerRight lastByte crc7Of remainder divide bits
-made-unlocked e = apart e
+made-unlocked e = never (sym e)
 
 made-never : made 0x00FF8000 [] 8192 .making ≡ Refused (by 7) → ⊥
 unfolding madeOf passwordMade lockMadeOf entriesRight registerRight lastByte crc7Of remainder divide bits
-made-never e = let z : _≡_ {A = ℕ} 0 1 = cc in omega arith
+made-never e = clash cc
 
 refused-keeps-cid : made 0x00FF8000 [] 8191 .card .registers .cid ≡ zeros → ⊥
 unfolding madeOf refusedMake
-refused-keeps-cid e = let z : _≡_ {A = ℕ} 0 1 = ap (λ (l : List ℕ). getD l 15 0) e in omega arith
+refused-keeps-cid e = clash (ap (λ (l : List ℕ). getD l 15 0) e)
 
 refused-idle : made 0x00FF8000 [] 8191 .card .link .state ≡ Idle → ⊥
 unfolding madeOf refusedMake
-refused-idle e = let z : _≡_ {A = ℕ} 0 1 = cc in omega arith
+refused-idle e = clash cc

@@ -10,7 +10,6 @@ use Rattle.base.specs.Choice.{unless}
 use Rattle.base.specs.Refusals.{by}
 use Rattle.base.specs.declared.Refusal.{Refusal}
 use Rattle.lock.specs.Passwords.{noPassword, madeOf as lockMadeOf}
-use Rattle.lock.specs.declared.Made.{Made as LockMade}
 use Rattle.lock.specs.declared.Making.{Making as LockMaking}
 use Rattle.lock.specs.declared.Making.the-variants.{Done as LockDone, Refused as LockRefused}
 use Rattle.lock.specs.declared.Lock.{Lock}

@@ -10,7 +10,7 @@
 --   spared-told       if a sector of the contents is tagged and protected, then one was spared
 -- Assumes nothing.
 use mathlib.Core.Path.{_≡_, refl, sym, ap, _∙_}
-use mathlib.Core.Bool.{Bool, true, false, _&&_, and-false, or-true}
+use mathlib.Core.Bool.{Bool, true, false, and-false, or-true}
 use mathlib.Core.List.{List}
 use mathlib.Core.Logic.{⊎-elim}
 use Prim.Native.Nat.{ℕ, zero, suc, _/_, _%_, _≤_, _<_}
@@ -18,7 +18,7 @@ use native.Mathlib.Nat.{eq-or-lt-of-le, le-of-suc-le-suc}
 use native.Mathlib.Omega.{arith}
 use lib.ListN.{length, getD, getD-replicate}
 use Rattle.base.specs.Choice.{pick}
-use Rattle.base.proofs.Cases.{cases}
+use Rattle.base.proofs.Cases.{cases, never, opposite, first, last}
 use Rattle.tags.specs.Tags.{taggedOf}
 use Rattle.tags.specs.declared.Tags.{Tags}
 use Rattle.store.specs.Erase.{erasedSector, sectorsIn, filled, spared, sectorErased, erasedTo, sparedTo, erased, anySpared}
@@ -34,17 +34,6 @@ blank-byte : (i : ℕ) → i < 512 → getD erasedSector i 0 ≡ 0xFF
 unfolding erasedSector
 blank-byte i h = getD-replicate 512 i 0xFF 0 h
 
-no-both : {P : Type 0} (b : Bool) → b ≡ true → b ≡ false → P
-no-both b t f = let z : _≡_ {A = Bool} true false = sym t ∙ f in let o : _≡_ {A = ℕ} 0 1 = cc in absurd (omega arith)
-
-both-first : (a b : Bool) → (a && b) ≡ true → a ≡ true
-both-first true b e = refl
-both-first false b e = e
-
-both-second : (a b : Bool) → (a && b) ≡ true → b ≡ true
-both-second true b e = e
-both-second false b e = no-both false e refl
-
 module _ (m : List ℕ) (t : Tags) (w : Bool) where
   one-length : (s : ℕ) (card : List ℕ) → length (sectorErased m t w s card) ≡ length card
   unfolding sectorErased
@@ -56,7 +45,7 @@ module _ (m : List ℕ) (t : Tags) (w : Bool) where
   unfolding sectorErased
   one-kept s p card h =
       cases (filled m t w s)
-      (λ f. simp f (written-elsewhere card erasedSector s blank-length p (λ e. no-both (filled m t w s) f (h e))))
+      (λ f. simp f (written-elsewhere card erasedSector s blank-length p (λ e. opposite (filled m t w s) f (h e))))
       (λ f. simp f)
 
   one-filled : (s p : ℕ) (card : List ℕ) → p / 512 ≡ s → s < length card / 512 → filled m t w s ≡ true → getD (sectorErased m t w s card) p 0 ≡ 0xFF
@@ -124,13 +113,13 @@ module _ (m : List ℕ) (t : Tags) (w : Bool) where
 
   some : (n : ℕ) → sparedTo m t w n ≡ true → (s : ℕ) × ((s < n) × (taggedOf t s ≡ true) × (protectedIn m w s ≡ true))
   unfolding sparedTo
-  some zero h = no-both false h refl
+  some zero h = never h
   some (suc n) h =
       cases (sparedTo m t w n)
       (λ e. let found = some n e in (found .0, (omega arith, found .1 .1, found .1 .2)))
       (λ e.
       let here : spared m t w n ≡ true = simp e at h in
-      (n, (omega arith, both-first (taggedOf t n) (protectedIn m w n) here, both-second (taggedOf t n) (protectedIn m w n) here)))
+      (n, (omega arith, first (taggedOf t n) (protectedIn m w n) here, last (taggedOf t n) (protectedIn m w n) here)))
 
   pub spared-told : (card : List ℕ) (s : ℕ) → s < sectorsIn (length card) → taggedOf t s ≡ true → protectedIn m w s ≡ true → anySpared m t w (length card) ≡ true
   unfolding anySpared

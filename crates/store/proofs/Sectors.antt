@@ -1,4 +1,4 @@
--- What writing a sector means, at every byte and for every sector.
+-- What writing a sector means, at every byte and for every sector; and what an allowed size is.
 --   written-length      the contents keep their length
 --   written-here        in the sector stand the bytes written
 --   written-elsewhere   every byte outside the sector is as it was, also where the contents have no such sector
@@ -8,17 +8,19 @@
 --   same-sector         two contents that agree at the bytes of a sector have the same sector
 --   sector-is           a sector is the bytes that stand at its places
 --   erased-reads        contents that are all erased read as 0xFF
+--   allowed-size        an allowed size lies between the bounds, and is one of whole protection groups
 -- Assumes nothing.
 use mathlib.Core.Path.{_≡_, sym, ap, _∙_}
+use mathlib.Core.Bool.{true, _&&_}
 use mathlib.Core.List.{List}
 use Prim.Native.Nat.{ℕ, _+_, _-_, _*_, _/_, _%_, _≤_, _<_, min}
 use native.Mathlib.Omega.{arith}
-use borrow.Author.Tests.{lt-ltb, ltb-true, ltb-false, le-leb}
-use lib.Dec.{ltb}
+use borrow.Author.Tests.{lt-ltb, ltb-true, ltb-false, le-leb, leb-true, eqb-true}
+use lib.Dec.{eqb, leb, ltb}
 use lib.ListN.{length, take, drop, getD, replicate, length-take, length-drop, length-replicate, getD-replicate}
 use lib.Seq.{paste, length-paste, ext-getD, getD-take, getD-drop}
-use Rattle.base.proofs.Cases.{cases}
-use Rattle.store.specs.Memory.{holds, sectorOf, sectorWritten, partRead, allErased}
+use Rattle.base.proofs.Cases.{cases, first, last}
+use Rattle.store.specs.Memory.{sizeAllowed, holds, sectorOf, sectorWritten, partRead, allErased}
 use Rattle.store.proofs.Pasting.{under, over, past}
 
 module _ (card bytes : List ℕ) (sector : ℕ) (long : length bytes ≡ 512) where
@@ -113,3 +115,11 @@ pub erased-reads : (card out : List ℕ) (at : ℕ) → at + length out ≤ leng
 unfolding partRead
 erased-reads card out at h =
     simp (length-replicate, le-leb _ _ h) (replicate-part 0xFF (length out) (length card) at h)
+
+pub allowed-size : (bytes : ℕ) → sizeAllowed bytes ≡ true → (8192 ≤ bytes) × (bytes ≤ 33554432) × (bytes % 8192 ≡ 0)
+allowed-size bytes e =
+    let bounds = first (leb 8192 bytes && leb bytes 33554432) (eqb (bytes % 8192) 0) e in (
+      leb-true 8192 bytes (first (leb 8192 bytes) (leb bytes 33554432) bounds),
+      leb-true bytes 33554432 (last (leb 8192 bytes) (leb bytes 33554432) bounds),
+      eqb-true (bytes % 8192) 0 (last (leb 8192 bytes && leb bytes 33554432) (eqb (bytes % 8192) 0) e),
+    )

@@ -19,58 +19,59 @@ use mathlib.Core.List.{List, [], _∷_}
 use Prim.Native.Nat.{ℕ}
 use native.Mathlib.Omega.{arith}
 use lib.ListN.{getD}
+use Rattle.base.proofs.Cases.{clash}
 use Rattle.store.specs.Map.{entriesRight, mapRight, lentRight, protectedIn, groupSet, bitsFrom, protectionBits, mapCleared}
 use Rattle.store.specs.Memory.{sizeAllowed, inside, partRead, allErased}
 
 size-below : sizeAllowed 8191 ≡ true → ⊥
-size-below e = let z : _≡_ {A = ℕ} 0 1 = cc in omega arith
+size-below e = clash cc
 
 size-above : sizeAllowed 33562624 ≡ true → ⊥
-size-above e = let z : _≡_ {A = ℕ} 0 1 = cc in omega arith
+size-above e = clash cc
 
 size-between : sizeAllowed 8704 ≡ true → ⊥
-size-between e = let z : _≡_ {A = ℕ} 0 1 = cc in omega arith
+size-between e = clash cc
 
 entry-two : mapRight (0 ∷ 2 ∷ []) 2 ≡ true → ⊥
 unfolding entriesRight
-entry-two e = let z : _≡_ {A = ℕ} 0 1 = cc in omega arith
+entry-two e = clash cc
 
 map-longer : mapRight (0 ∷ 0 ∷ []) 1 ≡ true → ⊥
 unfolding entriesRight
-map-longer e = let z : _≡_ {A = ℕ} 0 1 = cc in omega arith
+map-longer e = clash cc
 
 memory-short : lentRight 8191 (0 ∷ []) 1 ≡ true → ⊥
 unfolding entriesRight
-memory-short e = let z : _≡_ {A = ℕ} 0 1 = cc in omega arith
+memory-short e = clash cc
 
 lent-entry : lentRight 8192 (2 ∷ []) 1 ≡ true → ⊥
 unfolding entriesRight
-lent-entry e = let z : _≡_ {A = ℕ} 0 1 = cc in omega arith
+lent-entry e = clash cc
 
 part-past-end : inside (1 ∷ 2 ∷ 3 ∷ []) 2 2 ≡ true → ⊥
-part-past-end e = let z : _≡_ {A = ℕ} 0 1 = cc in omega arith
+part-past-end e = clash cc
 
 part-cut : partRead (1 ∷ 2 ∷ 3 ∷ []) 2 (0 ∷ 0 ∷ []) ≡ 3 ∷ 0 ∷ [] → ⊥
 unfolding partRead
 part-cut e = let z : _≡_ {A = ℕ} 0 3 = ap (λ (l : List ℕ). getD l 0 0) e in omega arith
 
 group-past-map : protectedIn (0 ∷ []) false 16 ≡ false → ⊥
-group-past-map e = let z : _≡_ {A = ℕ} 0 1 = cc in omega arith
+group-past-map e = clash cc
 
 next-group : protectedIn (0 ∷ 1 ∷ []) false 15 ≡ true → ⊥
-next-group e = let z : _≡_ {A = ℕ} 0 1 = cc in omega arith
+next-group e = clash cc
 
 own-group : protectedIn (0 ∷ 1 ∷ []) false 16 ≡ false → ⊥
-own-group e = let z : _≡_ {A = ℕ} 0 1 = cc in omega arith
+own-group e = clash cc
 
 whole-card : protectedIn (0 ∷ []) true 0 ≡ false → ⊥
-whole-card e = let z : _≡_ {A = ℕ} 0 1 = cc in omega arith
+whole-card e = clash cc
 
 set-as-clear : groupSet (1 ∷ []) 0 true ≡ 0 ∷ [] → ⊥
 set-as-clear e = let z : _≡_ {A = ℕ} 1 0 = ap (λ (l : List ℕ). getD l 0 0) e in omega arith
 
 set-both : groupSet (0 ∷ 0 ∷ []) 0 true ≡ 1 ∷ 1 ∷ [] → ⊥
-set-both e = let z : _≡_ {A = ℕ} 0 1 = ap (λ (l : List ℕ). getD l 1 0) e in omega arith
+set-both e = clash (ap (λ (l : List ℕ). getD l 1 0) e)
 
 bits-turned : protectionBits (1 ∷ 0 ∷ []) 0 ≡ 0x80000000 → ⊥
 unfolding protectionBits bitsFrom
@@ -84,10 +85,10 @@ zeros : allErased (1 ∷ []) ≡ 0 ∷ [] → ⊥
 zeros e = let z : _≡_ {A = ℕ} 0xFF 0 = ap (λ (l : List ℕ). getD l 0 0) e in omega arith
 
 one-left : mapCleared (0 ∷ 1 ∷ []) ≡ 0 ∷ 1 ∷ [] → ⊥
-one-left e = let z : _≡_ {A = ℕ} 0 1 = ap (λ (l : List ℕ). getD l 1 0) e in omega arith
+one-left e = clash (ap (λ (l : List ℕ). getD l 1 0) e)
 
 byte-left : allErased (0xFF ∷ 1 ∷ []) ≡ 0xFF ∷ 1 ∷ [] → ⊥
 byte-left e = let z : _≡_ {A = ℕ} 0xFF 1 = ap (λ (l : List ℕ). getD l 1 0) e in omega arith
 
 all-set : mapCleared (0 ∷ []) ≡ 1 ∷ [] → ⊥
-all-set e = let z : _≡_ {A = ℕ} 0 1 = ap (λ (l : List ℕ). getD l 0 0) e in omega arith
+all-set e = clash (ap (λ (l : List ℕ). getD l 0 0) e)

@@ -3,41 +3,37 @@
 --   map-changes       an entry that differs after a step: CMD28 or CMD29 at its group, or a forced erase
 -- Assumes nothing.
 use mathlib.Core.Path.{_≡_, refl, ap, _∙_}
-use mathlib.Core.Bool.{Bool, true, false, _&&_, not}
+use mathlib.Core.Bool.{Bool, true, false, not}
 use mathlib.Core.List.{List}
 use mathlib.Core.Logic.{inl, inr}
-use Prim.Native.Nat.{ℕ, _-_, _/_}
-use native.Mathlib.Omega.{arith}
+use Prim.Native.Nat.{ℕ, _/_}
 use borrow.Author.Tests.{ltb-true, ltb-false, eqb-true, eqb-false, not-true}
 use lib.Dec.{eqb, ltb}
-use lib.ListN.{length, getD, take, replicate, length-append, length-take, length-replicate}
+use lib.ListN.{length, getD}
 use lib.Seq.{getD-set-other}
 use Rattle.base.specs.Choice.{pick}
-use Rattle.base.proofs.Cases.{cases}
-use Rattle.card.specs.BlockIn.{blockGood, blockJudged, keptOf, storedBy, clearedBy}
+use Rattle.base.proofs.Cases.{cases, first, last}
+use Rattle.card.proofs.Outcomes.{WritesAt, one, many, InOutcome, unreads, refuses, stores, grants, forces, block-outcome}
+use Rattle.card.specs.BlockIn.{blockRefused, blockGood, blockJudged, keptOf, storedBy, clearedBy}
 use Rattle.card.specs.Frame.{frameJudged, erasedBy, protectedBy}
 use Rattle.card.specs.Step.{memoryOf, mapOf}
 use Rattle.card.specs.declared.BlockJudged.{BlockJudged}
 use Rattle.card.specs.declared.Call.{Call}
 use Rattle.card.specs.declared.Call.the-variants.{Frame, BlockIn, BlockOut, WorkDone, PowerOn}
 use Rattle.command.specs.declared.Change.{Change}
+use Rattle.made.proofs.Run.{kept-length}
 use Rattle.record.specs.Record.{csdProtects}
 use Rattle.record.specs.declared.Card.{Card}
+use Rattle.states.specs.declared.Incoming.{Incoming}
+use Rattle.states.specs.declared.State.the-variants.{Rcv}
 use Rattle.store.specs.Erase.{sectorsIn, filled, erased}
 use Rattle.store.specs.Map.{protectedIn, groupSet}
 use Rattle.store.proofs.Erased.{erased-byte, erased-past}
 use Rattle.store.proofs.Sectors.{written-elsewhere}
 use Rattle.tags.specs.Tags.{taggedOf}
 use Rattle.tags.specs.declared.Tags.{Tags}
-use Rattle.stored.specs.Changes.{Cause, written, erased as by-tag, forced, MapCause, set}
-use Rattle.stored.proofs.Blocks.{Blocks, refuses, stores, grants, forces, blocks, awaits}
+use Rattle.stored.specs.Changes.{AwaitsWrite, Cause, written, erased as by-tag, forced, MapCause, set}
 use Rattle.stored.proofs.Commands.{FrameChange, nothing, protects, frees, erases, frame-change}
-
--- what judging keeps of a block is a sector
-pub kept-length : (block : List ℕ) → length (keptOf block) ≡ 512
-unfolding keptOf
-kept-length block =
-    omega (arith, length-append (take 512 block) (replicate (512 - length block) 0), length-take 512 block, length-replicate {A = ℕ} (512 - length block) 0)
 
 -- a byte that an erase does not fill is as it was
 pub unfilled-byte : (m : List ℕ) (t : Tags) (w : Bool) (memory : List ℕ) (p : ℕ) → filled m t w (p / 512) ≡ false
@@ -47,9 +43,10 @@ unfilled-byte m t w memory p f =
     (λ h. erased-byte m t w memory p (ltb-true (p / 512) (sectorsIn (length memory)) h) ∙ simp f)
     (λ h. erased-past m t w memory p (ltb-false (p / 512) (sectorsIn (length memory)) h))
 
-both : (a b : Bool) → (a && not b) ≡ true → (a ≡ true) × (b ≡ false)
-both true b e = (refl, not-true b e)
-both false b e = absurd (let z : _≡_ {A = ℕ} 0 1 = cc in omega arith)
+-- a write that the card awaits, by the state that awaits it
+awaits : (card : Card) {incoming : Incoming} {at : ℕ} → WritesAt incoming at → card .link .state ≡ Rcv incoming → AwaitsWrite card at
+awaits card (one at) e = inl e
+awaits card (many at) e = inr e
 
 -- ---- memory
 module _ (card : Card) (input memory map : List ℕ) (p : ℕ) where
@@ -66,15 +63,24 @@ module _ (card : Card) (input memory map : List ℕ) (p : ℕ) where
       let whole : Bool = csdProtects (card .registers .csd) in
       cases (filled map tags whole (p / 512))
       (λ f.
-      let parts = both (taggedOf tags (p / 512)) (protectedIn map whole (p / 512)) f in
-      by-tag (record { called = refl; argument = argument; command = c; taken = e; tagged = parts .0; unprotected = parts .1 }))
+      let tagged : Bool = taggedOf tags (p / 512) in
+      let guarded : Bool = protectedIn map whole (p / 512) in
+      by-tag (record {
+        called = refl;
+        argument = argument;
+        command = c;
+        taken = e;
+        tagged = first tagged (not guarded) f;
+        unprotected = not-true guarded (last tagged (not guarded) f);
+      }))
       (λ f. absurd (d (unfilled-byte map tags whole memory p f)))
 
-  block-byte : {judged : BlockJudged} → Blocks card input (length memory) map judged → blockJudged card input (length memory) map ≡ judged
+  block-byte : {judged : BlockJudged} → InOutcome card input (length memory) map judged → blockJudged card input (length memory) map ≡ judged
       → Differs (storedBy (keptOf input) memory (judged .storing)) → Cause card BlockIn input (length memory) map (p / 512)
-  unfolding blockGood
-  block-byte (refuses link refusal) e d = absurd (d refl)
-  block-byte (stores incoming at w s lent long in-range free) e d =
+  unfolding blockRefused blockGood
+  block-byte (unreads n listed) e d = absurd (d refl)
+  block-byte (refuses incoming refusal fault s why) e d = absurd (d refl)
+  block-byte (stores incoming at w s right) e d =
       cases (eqb (p / 512) (at / 512))
       (λ t.
       written at (record { called = refl; awaited = awaits card w s; granted = λ room. ap (λ (j : BlockJudged). j .stepped .reply .outcome) e })
@@ -86,7 +92,7 @@ module _ (card : Card) (input memory map : List ℕ) (p : ℕ) where
 pub memory-changes : (card : Card) (call : Call) (input memory map : List ℕ) (p : ℕ)
     → (getD (memoryOf card call input memory map) p 0 ≡ getD memory p 0 → ⊥) → Cause card call input (length memory) map (p / 512)
 memory-changes card Frame input memory map p d = frame-byte card input memory map p (frame-change card input (length memory) map) refl d
-memory-changes card BlockIn input memory map p d = block-byte card input memory map p (blocks card input (length memory) map) refl d
+memory-changes card BlockIn input memory map p d = block-byte card input memory map p (block-outcome card input (length memory) map) refl d
 memory-changes card BlockOut input memory map p d = absurd (d refl)
 memory-changes card WorkDone input memory map p d = absurd (d refl)
 memory-changes card PowerOn input memory map p d = absurd (d refl)
@@ -112,18 +118,19 @@ module _ (card : Card) (input : List ℕ) (memory : ℕ) (map : List ℕ) (group
       set (record { called = refl; argument = argument; addressed = g; taken = inr (c, rw g e) })
   frame-entry (erases argument c l) e d = absurd (d refl)
 
-  block-entry : {judged : BlockJudged} → Blocks card input memory map judged → blockJudged card input memory map ≡ judged
+  block-entry : {judged : BlockJudged} → InOutcome card input memory map judged → blockJudged card input memory map ≡ judged
       → MapDiffers (clearedBy map (judged .storing)) → MapCause card BlockIn input memory map group
-  unfolding blockGood
-  block-entry (refuses link refusal) e d = absurd (d refl)
-  block-entry (stores incoming at w s lent long in-range free) e d = absurd (d refl)
+  unfolding blockRefused blockGood
+  block-entry (unreads n listed) e d = absurd (d refl)
+  block-entry (refuses incoming refusal fault s why) e d = absurd (d refl)
+  block-entry (stores incoming at w s right) e d = absurd (d refl)
   block-entry (grants s a) e d = absurd (d refl)
   block-entry (forces s a) e d = forced (record { called = refl; granted = ap (λ (j : BlockJudged). j .storing) e })
 
 pub map-changes : (card : Card) (call : Call) (input : List ℕ) (memory : ℕ) (map : List ℕ) (group : ℕ)
     → (getD (mapOf card call input memory map) group 0 ≡ getD map group 0 → ⊥) → MapCause card call input memory map group
 map-changes card Frame input memory map group d = frame-entry card input memory map group (frame-change card input memory map) refl d
-map-changes card BlockIn input memory map group d = block-entry card input memory map group (blocks card input memory map) refl d
+map-changes card BlockIn input memory map group d = block-entry card input memory map group (block-outcome card input memory map) refl d
 map-changes card BlockOut input memory map group d = absurd (d refl)
 map-changes card WorkDone input memory map group d = absurd (d refl)
 map-changes card PowerOn input memory map group d = absurd (d refl)

@@ -1,31 +1,30 @@
--- Every way in which a command, or a frame, can go, as far as what is lent is concerned: one list, and each command is on it.
+-- Every way in which a command can go, as far as what is lent is concerned: one list, and each command is on it. For a frame, which of them
+-- changes what is lent.
 --   Took           stopped on the way; CMD0; obeyed, having passed the lock
 --   took           each command is one of these
---   Framed         a frame refused, or a command that it carries
---   frames         each frame is one of these
 --   FrameChange    what a frame changes in what is lent: nothing, or it is CMD28, CMD29 or CMD38 at an unlocked card
 --   frame-change   what each frame changes is one of these
 -- Assumes nothing.
-use mathlib.Core.Path.{_≡_, refl, sym, _∙_}
+use mathlib.Core.Path.{_≡_, refl}
 use mathlib.Core.Bool.{Bool, true, false}
 use mathlib.Core.List.{List}
 use Prim.Native.Nat.{ℕ, _/_}
-use native.Mathlib.Omega.{arith}
 use borrow.Author.Tests.{eqb-true}
 use lib.Dec.{eqb}
+use Rattle.base.proofs.Cases.{picked, clash, never}
 use Rattle.base.specs.Choice.{pick, unless}
-use Rattle.base.specs.Refusals.{by}
-use Rattle.base.specs.declared.Refusal.{Refusal}
-use Rattle.card.specs.Frame.{metAlone, frameRefused, commanded, framed, frameJudged}
+use Rattle.card.proofs.Outcomes.{FrameOutcome, unheard, damaged, commands, frame-outcome}
+use Rattle.card.specs.Frame.{metAlone, frameJudged}
 use Rattle.card.specs.declared.FrameJudged.{FrameJudged}
 use Rattle.command.specs.Answers.{silent, answered}
-use Rattle.command.specs.Command.{askedOf, damagedLink, concluded, takenOf, movedBy, commandOf}
+use Rattle.command.specs.Command.{askedOf, concluded, takenOf, movedBy, commandOf}
 use Rattle.command.specs.Obey.{passesLock, taggingOf, judgedOf, changeOf}
 use Rattle.command.specs.declared.Change.{Change}
 use Rattle.command.specs.declared.Change.the-variants.{Nothing, Protect, Erase}
 use Rattle.command.specs.declared.Commanded.{Commanded}
 use Rattle.command.specs.declared.Met.{Met}
 use Rattle.command.specs.declared.Sent.{Sent}
+use Rattle.made.proofs.Faults.{unlocked}
 use Rattle.moves.specs.Classes.{classOf}
 use Rattle.moves.specs.Moves.{moveOf}
 use Rattle.moves.specs.Rows.{rowOf}
@@ -33,33 +32,21 @@ use Rattle.moves.specs.declared.Move.{Move}
 use Rattle.moves.specs.declared.Move.the-variants.{Ignored, Silent, Illegal, To}
 use Rattle.moves.specs.declared.Row.{Row}
 use Rattle.record.specs.Power.{freshLink}
-use Rattle.record.specs.Record.{sizeOf, withErrors, withTags, withLink}
+use Rattle.record.specs.Record.{sizeOf, withErrors, withTags}
 use Rattle.record.specs.declared.Card.{Card}
 use Rattle.record.specs.declared.Link.{Link}
-use Rattle.states.specs.States.{columnOf, numberOf}
+use Rattle.states.specs.States.{columnOf}
 use Rattle.states.specs.declared.Column.{Column}
 use Rattle.status.specs.ErrorBits.{errorBit}
 use Rattle.status.specs.declared.ErrorBit.{ErrorBit}
 use Rattle.status.specs.declared.Errors.{Errors}
 use Rattle.status.specs.declared.Fault.{Fault}
 use Rattle.status.specs.declared.Fault.the-variants.{None, Bit}
-use Rattle.store.specs.Map.{lentRight}
 use Rattle.tags.specs.Tagging.{failed}
 use Rattle.tags.specs.declared.Tagging.{Tagging}
 use Rattle.tags.specs.declared.Tags.{Tags}
-use Rattle.wire.specs.Frames.{framingOf, checked, frameOf}
+use Rattle.wire.specs.Frames.{frameOf}
 use Rattle.wire.specs.declared.Frame.the-variants.{Command}
-use Rattle.wire.specs.declared.Framing.{Framing}
-use Rattle.wire.specs.declared.Framing.the-variants.{Framed as WithBits, Unframed}
-
--- what holds of both sides of a choice, each where it is chosen, holds of the choice; the same of an order of refusals
-pub picked : {A : Type 0} (P : A → Type 0) (t : Bool) {a b : A} → (t ≡ true → P a) → (t ≡ false → P b) → P (pick t a b)
-picked P true x y = x refl
-picked P false x y = y refl
-
-pub ordered : {A : Type 0} (P : A → Type 0) (t : Bool) {refusal rest : A} → P refusal → (t ≡ true → P rest) → P (unless t refusal rest)
-ordered P true bad good = good refl
-ordered P false bad good = bad
 
 module _ (link : Link) (met : Met) (index argument : ℕ) where
   pub data Took : Commanded → Type 0 where
@@ -69,7 +56,7 @@ module _ (link : Link) (met : Met) (index argument : ℕ) where
 
   no-error : (t : Bool) (bit : ErrorBit) (rest : Tagging) → unless t (failed bit) rest .error ≡ None → t ≡ true
   no-error true bit rest e = refl
-  no-error false bit rest e = let z : _≡_ {A = ℕ} 0 1 = cc in absurd (omega arith)
+  no-error false bit rest e = clash cc
 
   passes : judgedOf link (met .groups) (met .locked) index argument .error ≡ None → passesLock (met .locked) index ≡ true
   unfolding judgedOf
@@ -98,29 +85,6 @@ module _ (link : Link) (met : Met) (index argument : ℕ) where
       let row : Row = rowOf (askedOf link met index argument) in
       moves row (moveOf row (columnOf (link .state)))
 
--- ---- frames
-module _ (card : Card) (frame : List ℕ) (memory : ℕ) (map : List ℕ) where
-  pub data Framed : FrameJudged → Type 0 where
-    refused : (errors : Errors) (refusal : Refusal) → Framed (frameRefused (withLink card (withErrors (card .link) errors)) refusal)
-    command : (index argument : ℕ) → frameOf frame ≡ Command index argument → lentRight memory map (card .registers .groups) ≡ true
-        → Framed (commanded card (commandOf (card .link) (metAlone card) index argument))
-
-  damages : Framed (frameRefused (withLink card (damagedLink (card .link))) (by 3))
-  unfolding damagedLink
-  damages =
-      picked (λ (l : Link). Framed (frameRefused (withLink card l) (by 3))) (eqb (numberOf (columnOf (card .link .state))) 9)
-      (λ t. refused (card .link .errors) (by 3)) (λ t. refused _ (by 3))
-
-  reads : (framing : Framing) → frameOf frame ≡ checked framing → lentRight memory map (card .registers .groups) ≡ true → Framed (framed card framing)
-  reads (Unframed refusal) e l = refused (card .link .errors) refusal
-  reads (WithBits index argument true) e l = command index argument e l
-  reads (WithBits index argument false) e l = damages
-
-  pub frames : Framed (frameJudged card frame memory map)
-  unfolding frameJudged frameOf
-  frames =
-      ordered Framed (lentRight memory map (card .registers .groups)) (refused (card .link .errors) (by 12)) (reads (framingOf frame) refl)
-
 -- ---- what changes in what is lent
 module _ (index argument : ℕ) where
   data Changes : Change → Type 0 where
@@ -132,19 +96,13 @@ module _ (index argument : ℕ) where
   is : (k : ℕ) → pick (eqb index k) true false ≡ true → index ≡ k
   is k e =
       eqb-true index k
-      (picked (λ (b : Bool). b ≡ true → eqb index k ≡ true) (eqb index k) (λ t u. t)
-      (λ t u. absurd (let z : _≡_ {A = ℕ} 0 1 = cc in omega arith)) e)
+      (picked (λ (b : Bool). b ≡ true → eqb index k ≡ true) (eqb index k) (λ t u. t) (λ t u. never u) e)
 
   changes : Changes (changeOf index argument)
   unfolding changeOf
   changes =
       picked Changes _ (λ t. on (is 28 t))
       (λ t. picked Changes _ (λ u. off (is 29 u)) (λ u. picked Changes _ (λ v. all (is 38 v)) (λ v. none)))
-
--- a command that a locked card holds back was obeyed, so the card is unlocked
-unlocked : (locked : Bool) (index : ℕ) → passesLock true index ≡ false → passesLock locked index ≡ true → locked ≡ false
-unlocked true index f t = sym t ∙ f
-unlocked false index f t = refl
 
 module _ (card : Card) (frame : List ℕ) (memory : ℕ) (map : List ℕ) where
   pub data FrameChange : Change → Type 0 where
@@ -167,9 +125,10 @@ module _ (card : Card) (frame : List ℕ) (memory : ℕ) (map : List ℕ) where
   by-command index argument e (reset i) = nothing
   by-command index argument e (obeyed next sent p) = by-index index argument e p (changes index argument)
 
-  by-frame : {judged : FrameJudged} → Framed card frame memory map judged → FrameChange (judged .change)
-  by-frame (refused errors refusal) = nothing
-  by-frame (command index argument e l) = by-command index argument e (took (card .link) (metAlone card) index argument)
+  by-frame : {judged : FrameJudged} → FrameOutcome card frame memory map judged → FrameChange (judged .change)
+  by-frame (unheard n listed) = nothing
+  by-frame damaged = nothing
+  by-frame (commands index argument e l) = by-command index argument e (took (card .link) (metAlone card) index argument)
 
   pub frame-change : FrameChange (frameJudged card frame memory map .change)
-  frame-change = by-frame (frames card frame memory map)
+  frame-change = by-frame (frame-outcome card frame memory map)

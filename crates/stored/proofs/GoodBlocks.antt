@@ -9,12 +9,10 @@ use mathlib.Core.List.{List, [], _∷_}
 use Prim.Native.Nat.{ℕ, _/_, _%_, _≤_, _<_}
 use native.Mathlib.Omega.{arith}
 use borrow.Author.Tests.{lt-ltb, eq-eqb}
-use lib.Dec.{eqb, leb}
+use lib.Dec.{eqb}
 use lib.ListN.{length, take}
 use lib.Seq.{take-at}
-use Rattle.base.specs.Refusals.{by}
-use Rattle.base.specs.declared.Refusal.{Refusal}
-use Rattle.base.proofs.Cases.{passed}
+use Rattle.card.proofs.Outcomes.{WritesAt, one, many}
 use Rattle.card.specs.BlockIn.{blockGood, writeJudged, awaitedJudged, blockJudged}
 use Rattle.card.specs.declared.BlockJudged.{BlockJudged}
 use Rattle.card.specs.declared.Outcome.the-variants.{Done}
@@ -23,31 +21,19 @@ use Rattle.record.specs.Record.{sizeOf}
 use Rattle.states.specs.declared.Incoming.{Incoming}
 use Rattle.states.specs.declared.Incoming.the-variants.{One, Many}
 use Rattle.states.specs.declared.State.the-variants.{Rcv}
-use Rattle.wire.specs.Blocks.{blockOf, carried, told, checkedOf}
-use Rattle.wire.specs.declared.Checked.{Checked}
-use Rattle.wire.specs.declared.Checked.the-variants.{Payload, Refused}
-use Rattle.wire.proofs.BlockTheorems.{long, check-after-write}
+use Rattle.wire.specs.Blocks.{blockOf, carried, told}
+use Rattle.wire.proofs.BlockTheorems.{long, good, check-after-write}
 use Rattle.stored.specs.ReadBack.{World, after, blockIn, storedThenRead, storedStoppedThenRead, Awaiting, Writable}
-use Rattle.stored.proofs.Blocks.{WritesAt, one, many}
 use Rattle.stored.proofs.ReadBack.{read-back, read-back-many}
-
-no-refusal : (refusal : Refusal) (n : ℕ) → _≡_ {A = Checked} (Refused refusal) (Payload n) → ⊥
-no-refusal refusal n e = let z : _≡_ {A = ℕ} 0 1 = cc in omega arith
-
--- a block that checks has the CRC16 that it tells
-right-crc : (block : List ℕ) (n : ℕ) → checkedOf block ≡ Payload n → eqb (told block) (crc16 (carried block)) ≡ true
-unfolding checkedOf
-right-crc block n e =
-    let low = passed (leb 3 (length block)) (Refused (by 5)) _ (Payload n) (no-refusal (by 5) n) e in
-    let high = passed (leb (length block) 2050) (Refused (by 5)) _ (Payload n) (no-refusal (by 5) n) (low .1) in
-    passed (eqb (told block) (crc16 (carried block))) (Refused (by 17)) _ (Payload n) (no-refusal (by 17) n) (high .1) .0
 
 module _ (w : World) (payload : List ℕ) (at : ℕ) (sector : length payload ≡ 512) (writable : Writable w at) where
   block-long : length (blockOf payload) ≡ 514
   block-long = omega (arith, long payload)
 
   crc-right : eqb (told (blockOf payload)) (crc16 (carried (blockOf payload))) ≡ true
-  crc-right = right-crc (blockOf payload) (length payload) (check-after-write payload (omega arith) (omega arith))
+  crc-right =
+      eq-eqb (told (blockOf payload)) (crc16 (carried (blockOf payload)))
+      (good (blockOf payload) (length payload) (check-after-write payload (omega arith) (omega arith)) .crc)
 
   in-memory : at / 512 < sizeOf (w .card .registers .groups) / 512
   in-memory = omega (arith, writable .in-range)

@@ -1,6 +1,6 @@
-pub mod Blocks
 pub mod Changes
 pub mod Commands
+pub mod FromMade
 pub mod GoodBlocks
 pub mod Locked
 pub mod Protected

@@ -7,18 +7,20 @@
 --   let-through           so a command that moves or changes something is of class 0 or CMD42
 -- Assumes nothing.
 use mathlib.Core.Path.{_≡_, refl, sym, ap, _∙_}
-use mathlib.Core.Bool.{Bool, true, false, not}
+use mathlib.Core.Bool.{Bool, true, false}
 use mathlib.Core.List.{List}
 use mathlib.Core.Logic.{_⊎_, inl, inr}
-use Prim.Native.Nat.{ℕ, _+_, _≤_}
+use Prim.Native.Nat.{ℕ, _≤_}
 use native.Mathlib.Omega.{arith}
-use borrow.Author.Tests.{leb-true, leb-false}
-use lib.Dec.{leb}
+use borrow.Author.Tests.{leb-false}
+use lib.Dec.{eqb}
 use lib.ListN.{length, getD}
-use Rattle.base.proofs.Cases.{cases, passed}
-use Rattle.card.specs.BlockIn.{blockGood, blockJudged}
-use Rattle.card.specs.BlockOut.{outRefused, outGood, partJudged, protectionJudged, outgoingJudged, stateSends, outJudged}
-use Rattle.card.specs.Frame.{metAlone, commanded, spares, sparedTold, frameJudged, frameOf, erasedBy, protectedBy}
+use Rattle.base.proofs.Cases.{cases, picked, clash, opposite}
+use Rattle.base.specs.Refusals.{by}
+use Rattle.card.proofs.Outcomes.{InOutcome, unreads, refuses, stores, grants, forces, OutOutcome, unsends, past, across, sends, FrameOutcome, unheard, damaged, commands, block-outcome, out-outcome, frame-outcome, told}
+use Rattle.card.specs.BlockIn.{blockRefused, blockGood, blockJudged}
+use Rattle.card.specs.BlockOut.{outRefused, outGood}
+use Rattle.card.specs.Frame.{metAlone, frameRefused, commanded, spares, frameJudged, frameOf, erasedBy, protectedBy}
 use Rattle.card.specs.Step.{stepOf, memoryOf, mapOf}
 use Rattle.card.specs.declared.BlockJudged.{BlockJudged}
 use Rattle.card.specs.declared.Call.{Call}
@@ -26,38 +28,31 @@ use Rattle.card.specs.declared.Call.the-variants.{Frame, BlockIn, BlockOut, Wor
 use Rattle.card.specs.declared.FrameJudged.{FrameJudged}
 use Rattle.card.specs.declared.OutJudged.{OutJudged}
 use Rattle.card.specs.declared.Stepped.{Stepped}
+use Rattle.command.specs.Command.{damagedLink}
 use Rattle.command.specs.Obey.{passesLock}
 use Rattle.command.specs.declared.Change.{Change}
 use Rattle.command.specs.declared.Change.the-variants.{Nothing, Protect, Erase}
 use Rattle.command.specs.declared.Commanded.{Commanded}
 use Rattle.lock.specs.Passwords.{stored, poweredOf}
-use Rattle.lock.specs.Requests.{carried as passwordIn, whole, presented}
+use Rattle.lock.specs.Requests.{presented}
 use Rattle.lock.specs.declared.Answer.the-variants.{Granted}
 use Rattle.lock.specs.declared.Lock.{Lock}
 use Rattle.lock.specs.declared.Requested.{Requested}
-use Rattle.lock.proofs.Same.{same-equal}
+use Rattle.lock.proofs.Carried.{presented-parts}
 use Rattle.moves.specs.Classes.{classOf}
 use Rattle.record.specs.Power.{poweredOn, worked}
-use Rattle.record.specs.Record.{csdProtects, sizeOf, lengthRead, crosses, withErrors}
+use Rattle.record.specs.Record.{csdProtects, withLink}
 use Rattle.record.specs.declared.Card.{Card}
 use Rattle.record.specs.declared.Link.{Link}
-use Rattle.states.specs.declared.Outgoing.{Outgoing}
-use Rattle.states.specs.declared.Outgoing.the-variants.{One, Many, Protection}
-use Rattle.states.specs.declared.State.{State}
-use Rattle.states.specs.declared.State.the-variants.{Idle, Ready, Ident, Stby, Tran, Data, Rcv, Prg, Dis, Ina}
-use Rattle.status.specs.ErrorBits.{errorBit}
-use Rattle.status.specs.Status.{withBit}
-use Rattle.store.specs.Map.{lentRight}
+use Rattle.states.specs.States.{columnOf, numberOf}
 use Rattle.wire.specs.Blocks.{carried as payloadOf}
 use Rattle.wire.specs.Frames.{frameOf as readOf}
 use Rattle.wire.specs.declared.Frame.the-variants.{Command}
 use Rattle.stored.specs.Changes.{SetBy, ForcedErase, Cause, written, erased, forced, MapCause, set}
 use Rattle.stored.specs.Locked.{LockedCard, UnlockGranted, Unlocking, none-stored, unlocked, Unmoved}
 use Rattle.stored.specs.Locked.{forced as by-force}
-use Rattle.stored.proofs.Blocks.{Blocks, refuses, stores, grants, forces, blocks}
 use Rattle.stored.proofs.Changes.{memory-changes, map-changes}
-use Rattle.stored.proofs.Commands.{ordered, Took, stopped, reset, obeyed, took, Framed, refused, command, frames, FrameChange, nothing, protects, frees, erases, frame-change}
-use Rattle.stored.proofs.Protected.{opposite}
+use Rattle.stored.proofs.Commands.{Took, stopped, reset, obeyed, took, FrameChange, nothing, protects, frees, erases, frame-change}
 use Rattle.stored.proofs.Requests.{Asks, fails, unlocks, others, erases as erased-all, asks}
 
 -- ---- memory and map
@@ -77,11 +72,11 @@ module _ (card : Card) (locked : LockedCard card) (call : Call) (input : List �
   memory-cause memory map sector (written at w e) = absurd (locked .no-write at (w .awaited))
   memory-cause memory map sector (erased t) =
       opposite (card .lock .locked) (locked .locked)
-      (changed-unlocked card input memory map Erase (t .taken) (λ e. let z : _≡_ {A = ℕ} 0 1 = cc in omega arith))
+      (changed-unlocked card input memory map Erase (t .taken) (λ e. clash cc))
   memory-cause memory map sector (forced f) = f
 
   set-unlocked : (memory : ℕ) (map : List ℕ) (group : ℕ) (on : Bool) → frameJudged card input memory map .change ≡ Protect group on → card .lock .locked ≡ false
-  set-unlocked memory map group on t = changed-unlocked card input memory map (Protect group on) t (λ e. let z : _≡_ {A = ℕ} 0 1 = cc in omega arith)
+  set-unlocked memory map group on t = changed-unlocked card input memory map (Protect group on) t (λ e. clash cc)
 
   either-set : (memory : ℕ) (map : List ℕ) (argument group : ℕ)
       → SetBy card call input memory map 28 true argument group ⊎ SetBy card call input memory map 29 false argument group → card .lock .locked ≡ false
@@ -101,36 +96,26 @@ module _ (card : Card) (locked : LockedCard card) (call : Call) (input : List �
   )
 
 -- ---- the flag
--- an unlock that is granted carries exactly the stored password
-no-truth : false ≡ true → ⊥
-no-truth e = let z : _≡_ {A = ℕ} 0 1 = cc in omega arith
-
-exact : (lock : Lock) (payload : List ℕ) → presented lock payload ≡ true → (1 ≤ length (stored lock)) × (passwordIn payload ≡ stored lock)
-unfolding presented
-exact lock payload e =
-    let w = passed (whole payload) false _ true no-truth e in
-    let s = passed (leb 1 (length (stored lock))) false _ true no-truth (w .1) in
-    (leb-true 1 (length (stored lock)) (s .0), same-equal (passwordIn payload) (stored lock) (s .1))
-
 module _ (card : Card) (input : List ℕ) (memory : ℕ) (map : List ℕ) (locked : card .lock .locked ≡ true) where
   abbrev Why : Call → Type 0
   Why call = Unlocking card call input memory map
 
   request-unlocks : {requested : Requested} → Asks (card .lock) (payloadOf input) (csdProtects (card .registers .csd)) requested
       → requested .answer ≡ Granted → (getD (payloadOf input) 0 0 ≡ 0) × (presented (card .lock) (payloadOf input) ≡ true)
-  request-unlocks fails a = let z : _≡_ {A = ℕ} 0 1 = cc in absurd (omega arith)
+  request-unlocks fails a = clash cc
   request-unlocks (unlocks b l p) a = (b, p)
   request-unlocks (others next l) a = opposite (card .lock .locked) locked l
-  request-unlocks (erased-all b l p) a = let z : _≡_ {A = ℕ} 0 1 = cc in absurd (omega arith)
+  request-unlocks (erased-all b l p) a = clash cc
 
-  block-unlocks : {judged : BlockJudged} → Blocks card input memory map judged → blockJudged card input memory map ≡ judged
+  block-unlocks : {judged : BlockJudged} → InOutcome card input memory map judged → blockJudged card input memory map ≡ judged
       → judged .stepped .card .lock .locked ≡ false → Why BlockIn
-  unfolding blockGood
-  block-unlocks (refuses link refusal) is e = opposite (card .lock .locked) locked e
-  block-unlocks (stores incoming at w s lent long in-range free) is e = opposite (card .lock .locked) locked e
+  unfolding blockRefused blockGood
+  block-unlocks (unreads n listed) is e = opposite (card .lock .locked) locked e
+  block-unlocks (refuses incoming refusal fault s why) is e = opposite (card .lock .locked) locked e
+  block-unlocks (stores incoming at w s right) is e = opposite (card .lock .locked) locked e
   block-unlocks (grants s a) is e =
       let u = request-unlocks (asks (card .lock) (payloadOf input) (csdProtects (card .registers .csd))) a in
-      let x = exact (card .lock) (payloadOf input) (u .1) in
+      let x = presented-parts (card .lock) (payloadOf input) (u .1) in
       unlocked (record {
         called = refl;
         awaited = s;
@@ -143,51 +128,25 @@ module _ (card : Card) (input : List ℕ) (memory : ℕ) (map : List ℕ) (locke
 
 -- a block out and a frame leave the lock as it is
 module _ (card : Card) where
-  abbrev Same : OutJudged → Type 0
-  Same judged = judged .stepped .card .lock ≡ card .lock
+  out-lock : {judged : OutJudged} → OutOutcome card judged → judged .stepped .card .lock ≡ card .lock
+  unfolding outRefused outGood
+  out-lock (unsends n listed) = refl
+  out-lock (past outgoing on) = refl
+  out-lock (across outgoing on) = refl
+  out-lock (sends outgoing next n sending on within) = refl
 
-  part-lock : (outgoing : Outgoing) (at n room : ℕ) → Same (partJudged card outgoing at n room)
-  unfolding partJudged outRefused outGood
-  part-lock outgoing at n room =
-      ordered Same (leb (n + 2) room) refl
-      (λ a. ordered Same (leb (at + n) (sizeOf (card .registers .groups))) refl (λ b. ordered Same (not (crosses at n)) refl (λ c. refl)))
-
-  outgoing-lock : (outgoing : Outgoing) (room : ℕ) → Same (outgoingJudged card outgoing room)
-  unfolding protectionJudged outGood
-  outgoing-lock (One at) room = part-lock (One at) at (lengthRead (card .link .length)) room
-  outgoing-lock (Many at) room = part-lock (Many at) at (lengthRead (card .link .length)) room
-  outgoing-lock (Protection group) room = ordered Same (leb 6 room) refl (λ t. refl)
-
-  sends-lock : (state : State) (room : ℕ) → Same (stateSends card state room)
-  sends-lock Idle room = refl
-  sends-lock Ready room = refl
-  sends-lock Ident room = refl
-  sends-lock Stby room = refl
-  sends-lock Tran room = refl
-  sends-lock (Data outgoing) room = outgoing-lock outgoing room
-  sends-lock (Rcv incoming) room = refl
-  sends-lock Prg room = refl
-  sends-lock Dis room = refl
-  sends-lock Ina room = refl
-
-  out-lock : (memory : ℕ) (map : List ℕ) (room : ℕ) → Same (outJudged card memory map room)
-  unfolding outJudged
-  out-lock memory map room = ordered Same (lentRight memory map (card .registers .groups)) refl (λ t. sends-lock (card .link .state) room)
-
-  framed-lock : (frame : List ℕ) (memory : ℕ) (map : List ℕ) {judged : FrameJudged} → Framed card frame memory map judged
+  framed-lock : (frame : List ℕ) (memory : ℕ) (map : List ℕ) {judged : FrameJudged} → FrameOutcome card frame memory map judged
       → judged .stepped .card .lock ≡ card .lock
-  framed-lock frame memory map (refused errors refusal) = refl
-  framed-lock frame memory map (command index argument e l) = refl
+  framed-lock frame memory map (unheard n listed) = refl
+  framed-lock frame memory map damaged = refl
+  framed-lock frame memory map (commands index argument e l) = refl
 
-told-lock : (stepped : Stepped) (spared : Bool) → sparedTold stepped spared .card .lock ≡ stepped .card .lock
-told-lock stepped true = refl
-told-lock stepped false = refl
-
-frame-lock : (card : Card) (frame : List ℕ) (memory : ℕ) (map : List ℕ) → frameOf card frame memory map .card .lock ≡ card .lock
-unfolding frameOf
-frame-lock card frame memory map =
-    told-lock (frameJudged card frame memory map .stepped) (spares card memory map (frameJudged card frame memory map .change))
-    ∙ framed-lock card frame memory map (frames card frame memory map)
+  frame-lock : (frame : List ℕ) (memory : ℕ) (map : List ℕ) → frameOf card frame memory map .card .lock ≡ card .lock
+  unfolding frameOf
+  frame-lock frame memory map =
+      let same = framed-lock frame memory map (frame-outcome card frame memory map) in
+      told (λ (s : Stepped). s .card .lock ≡ card .lock) (frameJudged card frame memory map .stepped)
+      (spares card memory map (frameJudged card frame memory map .change)) same same
 
 none : (lock : Lock) → poweredOf lock .locked ≡ false → length (stored lock) ≡ 0
 unfolding poweredOf
@@ -198,9 +157,9 @@ pub unlocks-only : (card : Card) (call : Call) (input : List ℕ) (memory : ℕ)
 unfolding worked poweredOn
 unlocks-only card Frame input memory map room l e =
     opposite (card .lock .locked) l (sym (ap (λ (x : Lock). x .locked) (frame-lock card input memory map)) ∙ e)
-unlocks-only card BlockIn input memory map room l e = block-unlocks card input memory map l (blocks card input memory map) refl e
+unlocks-only card BlockIn input memory map room l e = block-unlocks card input memory map l (block-outcome card input memory map) refl e
 unlocks-only card BlockOut input memory map room l e =
-    opposite (card .lock .locked) l (sym (ap (λ (x : Lock). x .locked) (out-lock card memory map room)) ∙ e)
+    opposite (card .lock .locked) l (sym (ap (λ (x : Lock). x .locked) (out-lock card (out-outcome card memory map room))) ∙ e)
 unlocks-only card WorkDone input memory map room l e = opposite (card .lock .locked) l e
 unlocks-only card PowerOn input memory map room l e = none-stored refl (none (card .lock) e)
 
@@ -231,17 +190,21 @@ module _ (card : Card) (frame : List ℕ) (memory : ℕ) (map : List ℕ) (index
     took-held (reset z) = opposite true refl (rw z at stops)
     took-held (obeyed next sent p) = opposite (passesLock true index) (rw locked at p) stops
 
-    framed-held : {judged : FrameJudged} → Framed card frame memory map judged → readOf frame ≡ Command index argument → Held judged
-    framed-held (refused errors refusal) e = record { state = refl; address = refl; length-kept = refl; change = refl }
-    framed-held (command i a c l) e =
+    -- bit 23 is an error bit
+    damage-held : Held (frameRefused (withLink card (damagedLink (card .link))) (by 3))
+    unfolding damagedLink
+    damage-held =
+        picked (λ (l : Link). Held (frameRefused (withLink card l) (by 3))) (eqb (numberOf (columnOf (card .link .state))) 9)
+        (λ t. record { state = refl; address = refl; length-kept = refl; change = refl })
+        (λ t. record { state = refl; address = refl; length-kept = refl; change = refl })
+
+    framed-held : {judged : FrameJudged} → FrameOutcome card frame memory map judged → readOf frame ≡ Command index argument → Held judged
+    framed-held (unheard n listed) e = record { state = refl; address = refl; length-kept = refl; change = refl }
+    framed-held damaged e = damage-held
+    framed-held (commands i a c l) e =
         let ei : i ≡ index = cc in
         let ea : a ≡ argument = cc in
         rw (ei, ea) (took-held (took (card .link) (metAlone card) index argument))
-
-told-link : (P : Link → Type 0) (stepped : Stepped) (spared : Bool) → P (stepped .card .link)
-    → P (withErrors (stepped .card .link) (withBit (stepped .card .link .errors) (errorBit 15))) → P (sparedTold stepped spared .card .link)
-told-link P stepped true x y = y
-told-link P stepped false x y = x
 
 module _ (card : Card) (frame memory map : List ℕ) (room index argument : ℕ) (locked : card .lock .locked ≡ true) (is : readOf frame ≡ Command index argument) where
   pub held-back : passesLock true index ≡ false → Unmoved card frame memory map room
@@ -249,11 +212,11 @@ module _ (card : Card) (frame memory map : List ℕ) (room index argument : ℕ)
   held-back stops =
       let judged : FrameJudged = frameJudged card frame (length memory) map in
       let spared : Bool = spares card (length memory) map (judged .change) in
-      let held = framed-held card frame (length memory) map index argument locked stops (frames card frame (length memory) map) is in
+      let held = framed-held card frame (length memory) map index argument locked stops (frame-outcome card frame (length memory) map) is in
       record {
-        state = told-link (λ (l : Link). l .state ≡ card .link .state) (judged .stepped) spared (held .state) (held .state);
-        address = told-link (λ (l : Link). l .address ≡ card .link .address) (judged .stepped) spared (held .address) (held .address);
-        length-kept = told-link (λ (l : Link). l .length ≡ card .link .length) (judged .stepped) spared (held .length-kept) (held .length-kept);
+        state = told (λ (s : Stepped). s .card .link .state ≡ card .link .state) (judged .stepped) spared (held .state) (held .state);
+        address = told (λ (s : Stepped). s .card .link .address ≡ card .link .address) (judged .stepped) spared (held .address) (held .address);
+        length-kept = told (λ (s : Stepped). s .card .link .length ≡ card .link .length) (judged .stepped) spared (held .length-kept) (held .length-kept);
         memory-kept = ap (erasedBy card memory map) (held .change);
         map-kept = ap (protectedBy map) (held .change);
       }

@@ -3,7 +3,7 @@
 --   read-back-many    the same of a block that CMD25 stored, with CMD12 before work done
 -- Assumes nothing.
 use mathlib.Core.Path.{_≡_, refl, sym, ap, _∙_}
-use mathlib.Core.Bool.{Bool, true, false, _&&_}
+use mathlib.Core.Bool.{true, false}
 use mathlib.Core.List.{List, [], _∷_, append-nil}
 use Prim.Native.Nat.{ℕ, _+_, _*_, _/_, _%_, _^_, _≤_, _<_}
 use native.Mathlib.Omega.{arith}
@@ -11,20 +11,22 @@ use borrow.Author.Tests.{eqb-true, le-leb, le-ltb}
 use lib.Dec.{eqb}
 use lib.ListN.{length, take, drop, length-append, length-drop}
 use lib.Seq.{length-take-le, take-at}
-use Rattle.card.specs.BlockIn.{afterStored, blockGood, blockJudged, keptOf, storedBy, clearedBy}
+use Rattle.base.proofs.Cases.{clash, first}
+use Rattle.card.proofs.Outcomes.{WritesAt, one, many, only, Storable, InOutcome, unreads, refuses, stores, grants, forces, block-outcome}
+use Rattle.card.specs.BlockIn.{afterStored, blockRefused, blockGood, blockJudged, keptOf, storedBy, clearedBy}
 use Rattle.card.specs.BlockOut.{partJudged, outGood, outJudged, partSent, sentOut}
-use Rattle.card.specs.Frame.{metAlone, frameJudged, erasedBy, protectedBy}
+use Rattle.card.specs.Frame.{metAlone}
 use Rattle.card.specs.declared.BlockJudged.{BlockJudged}
 use Rattle.card.specs.declared.Call.the-variants.{WorkDone}
-use Rattle.card.specs.declared.FrameJudged.{FrameJudged}
 use Rattle.card.specs.declared.OutJudged.{OutJudged}
 use Rattle.card.specs.declared.Outcome.the-variants.{Done, Wrote}
 use Rattle.card.specs.declared.Sending.the-variants.{Part}
 use Rattle.card.specs.declared.Stepped.{Stepped}
 use Rattle.card.specs.declared.Storing.the-variants.{Sector}
 use Rattle.command.specs.Command.{commandOf}
-use Rattle.command.specs.declared.Change.the-variants.{Nothing}
 use Rattle.crc.specs.Crc.{crc16}
+use Rattle.demands.proofs.Frames.{unlent}
+use Rattle.made.proofs.Run.{kept-length}
 use Rattle.record.specs.Power.{workedState, worked}
 use Rattle.record.specs.Record.{sizeOf}
 use Rattle.record.specs.declared.Card.{Card}
@@ -38,44 +40,32 @@ use Rattle.store.specs.Memory.{sectorWritten, partOf}
 use Rattle.store.proofs.Sectors.{written-length, read-back as sector-back}
 use Rattle.wire.specs.Blocks.{blockOf}
 use Rattle.wire.specs.Frames.{commandFrame}
+use Rattle.wire.proofs.FrameTheorems.{read-after-write}
 use Rattle.stored.specs.ReadBack.{World, after, commanded, blockIn, readAgain, storedThenRead, storedStoppedThenRead, Awaiting, ReadsBack}
-use Rattle.stored.proofs.Blocks.{WritesAt, one, many, Blocks, refuses, stores, grants, forces, blocks}
-use Rattle.stored.proofs.Changes.{kept-length}
-use Rattle.stored.proofs.Runs.{read-framing, Leaves, leaves-12, leaves-16, leaves-17, frame-judged, frame-step}
+use Rattle.stored.proofs.Runs.{Leaves, leaves-12, leaves-16, leaves-17}
 
 -- ---- the block in
 record Stored (card : Card) (incoming : Incoming) (at : ℕ) (block : List ℕ) (memory : ℕ) (map : List ℕ) (judged : BlockJudged) : Type 0 where
   is : judged ≡ blockGood card (afterStored incoming (at / 512 * 512 + 512)) (Sector (at / 512))
-  lent : lentRight memory map (card .registers .groups) ≡ true
-  long : length block ≡ 514
-  in-range : at / 512 < sizeOf (card .registers .groups) / 512
-
-only : {i j : Incoming} {a b : ℕ} → WritesAt i a → WritesAt j b → i ≡ j → a ≡ b
-only (one a) (one b) e = cc
-only (one a) (many b) e = let z : _≡_ {A = ℕ} 0 1 = cc in absurd (omega arith)
-only (many a) (one b) e = let z : _≡_ {A = ℕ} 0 1 = cc in absurd (omega arith)
-only (many a) (many b) e = cc
+  storable : Storable card block memory map (at / 512)
 
 no-write : {P : Type 0} {incoming : Incoming} {at : ℕ} → WritesAt incoming at → incoming ≡ LockRequest → P
-no-write (one at) e = let z : _≡_ {A = ℕ} 0 1 = cc in absurd (omega arith)
-no-write (many at) e = let z : _≡_ {A = ℕ} 0 1 = cc in absurd (omega arith)
+no-write (one at) e = clash cc
+no-write (many at) e = clash cc
 
 module _ (card : Card) (block : List ℕ) (memory : ℕ) (map : List ℕ) (incoming : Incoming) (at : ℕ) (w : WritesAt incoming at) (state : card .link .state ≡ Rcv incoming) where
-  stored-as : {judged : BlockJudged} → Blocks card block memory map judged → judged .stepped .reply .outcome ≡ Done → Stored card incoming at block memory map judged
-  unfolding blockGood
-  stored-as (refuses link refusal) d = let z : _≡_ {A = ℕ} 0 1 = cc in absurd (omega arith)
-  stored-as (stores other place v s lent long in-range free) d =
+  stored-as : {judged : BlockJudged} → InOutcome card block memory map judged → judged .stepped .reply .outcome ≡ Done → Stored card incoming at block memory map judged
+  unfolding blockRefused blockGood
+  stored-as (unreads n listed) d = clash cc
+  stored-as (refuses other refusal fault s why) d = clash cc
+  stored-as (stores other place v s right) d =
       let ei : other ≡ incoming = cc in
       let ea : place ≡ at = only v w ei in
-      record { is = rw (ei, ea); lent = lent; long = long; in-range = rw ea at in-range }
+      record { is = rw (ei, ea); storable = rw ea at right }
   stored-as (grants s a) d = no-write w (cc)
   stored-as (forces s a) d = no-write w (cc)
 
 -- ---- the run
-first : (a b : Bool) → (a && b) ≡ true → a ≡ true
-first true b e = refl
-first false b e = e
-
 module _ (groups : ℕ) (memory map output : List ℕ) (lent : lentRight (length memory) map groups ≡ true) where
   -- an unlocked card in this state, lent the same all the way
   record Holds (state : State) (w : World) : Type 0 where
@@ -94,20 +84,19 @@ module _ (groups : ℕ) (memory map output : List ℕ) (lent : lentRight (length
       → Holds there (commanded w index argument) × (commanded w index argument .card .link .length ≡ n)
   unfolding after
   by-frame w there n index argument h hi ha l =
-      let frame : List ℕ = commandFrame index argument in
-      let is = read-framing index argument hi ha in
-      let judged = frame-judged (w .card) frame (length (w .memory)) (w .map) index argument is (lent-to w h) in
-      let step = frame-step (w .card) frame (length (w .memory)) (w .map) index argument is (lent-to w h) (l .unchanged) in
-      let change : frameJudged (w .card) frame (length (w .memory)) (w .map) .change ≡ Nothing = ap (λ (j : FrameJudged). j .change) judged ∙ l .unchanged in (
+      let u =
+      unlent (w .card) (commandFrame index argument) (w .memory) (w .map) (w .output) index argument
+      (record { lent = lent-to w h; command = read-after-write index argument hi ha }) (l .unchanged)
+      in (
         record {
-          groups-are = ap (λ (s : Stepped). s .card .registers .groups) step ∙ h .groups-are;
-          unlocked = ap (λ (s : Stepped). s .card .lock .locked) step ∙ h .unlocked;
-          state-is = ap (λ (s : Stepped). s .card .link .state) step ∙ l .state-is;
-          memory-is = ap (erasedBy (w .card) (w .memory) (w .map)) change ∙ h .memory-is;
-          map-is = ap (protectedBy (w .map)) change ∙ h .map-is;
-          output-is = h .output-is;
+          groups-are = ap (λ (s : Stepped). s .card .registers .groups) (u .step) ∙ h .groups-are;
+          unlocked = ap (λ (s : Stepped). s .card .lock .locked) (u .step) ∙ h .unlocked;
+          state-is = ap (λ (s : Stepped). s .card .link .state) (u .step) ∙ l .state-is;
+          memory-is = u .memory-kept ∙ h .memory-is;
+          map-is = u .map-kept ∙ h .map-is;
+          output-is = u .output-kept ∙ h .output-is;
         },
-        ap (λ (s : Stepped). s .card .link .length) step ∙ l .length-is,
+        ap (λ (s : Stepped). s .card .link .length) (u .step) ∙ l .length-is,
       )
 
   by-work : (w : World) → Holds Prg w → Holds Tran (after w WorkDone [])
@@ -177,14 +166,14 @@ module _ (w : World) (block : List ℕ) (at : ℕ) (awaiting : Awaiting (w .card
   module _ (incoming : Incoming) (writes : WritesAt incoming at) (state : w .card .link .state ≡ Rcv incoming) (granted : blockIn w block .outcome ≡ Done) where
     judged : Stored (w .card) incoming at block (length (w .memory)) (w .map) (blockJudged (w .card) block (length (w .memory)) (w .map))
     unfolding after
-    judged = stored-as (w .card) block (length (w .memory)) (w .map) incoming at writes state (blocks (w .card) block (length (w .memory)) (w .map)) granted
+    judged = stored-as (w .card) block (length (w .memory)) (w .map) incoming at writes state (block-outcome (w .card) block (length (w .memory)) (w .map)) granted
 
     -- a block that was granted lies in memory
     in-memory : at + 512 ≤ sizeOf (w .card .registers .groups)
-    in-memory = omega (arith, judged .in-range, awaiting .aligned)
+    in-memory = omega (arith, judged .storable .in-range, awaiting .aligned)
 
     still-lent : lentRight (length after-memory) (w .map) (w .card .registers .groups) ≡ true
-    still-lent = rw (written-length (w .memory) (keptOf block) (at / 512) (kept-length block)) (judged .lent)
+    still-lent = rw (written-length (w .memory) (keptOf block) (at / 512) (kept-length block)) (judged .storable .lent)
 
     stored-holds : Holds (w .card .registers .groups) after-memory (w .map) (w .output) still-lent (afterStored incoming (at / 512 * 512 + 512)) (blockIn w block)
     unfolding after blockGood
@@ -205,11 +194,11 @@ module _ (w : World) (block : List ℕ) (at : ℕ) (awaiting : Awaiting (w .card
         let place : at / 512 * 512 ≡ at = omega (arith, awaiting .aligned) in
         let size : length (w .memory) ≡ w .card .registers .groups * 8192 =
         eqb-true (length (w .memory)) (w .card .registers .groups * 8192)
-        (first (eqb (length (w .memory)) (w .card .registers .groups * 8192)) (mapRight (w .map) (w .card .registers .groups)) (judged .lent))
+        (first (eqb (length (w .memory)) (w .card .registers .groups * 8192)) (mapRight (w .map) (w .card .registers .groups)) (judged .storable .lent))
         in
         ap (λ (k : ℕ). partOf after-memory k 512) (sym place)
         ∙ sector-back (w .memory) (keptOf block) (at / 512) (kept-length block) (omega (arith, in-memory))
-        ∙ kept-is block (judged .long)
+        ∙ kept-is block (judged .storable .long)
 
     reads : (v : World) → Holds (w .card .registers .groups) after-memory (w .map) (w .output) still-lent Prg v → ReadsBack block (readAgain v at)
     reads v h =

@@ -9,14 +9,13 @@ use Prim.Native.Nat.{ℕ}
 use borrow.Author.Tests.{eqb-true, not-true}
 use lib.Dec.{eqb, leb}
 use lib.ListN.{length, getD}
-use Rattle.base.proofs.Cases.{cases}
+use Rattle.base.proofs.Cases.{cases, picked, guarded}
 use Rattle.lock.specs.Passwords.{noPassword, flagged}
 use Rattle.lock.specs.Requests.{askedBy, settable, presented, allowed, failed, doneOf, requestOf}
 use Rattle.lock.specs.declared.Answer.the-variants.{Granted, Erased}
 use Rattle.lock.specs.declared.Asked.{Asked}
 use Rattle.lock.specs.declared.Lock.{Lock}
 use Rattle.lock.specs.declared.Requested.{Requested}
-use Rattle.stored.proofs.Commands.{picked, ordered}
 
 module _ (lock : Lock) (payload : List ℕ) (protected : Bool) where
   pub data Asks : Requested → Type 0 where
@@ -33,28 +32,28 @@ module _ (lock : Lock) (payload : List ℕ) (protected : Bool) where
 
   first-zero : byte ≡ 0 → allowed byte (lock .locked) ≡ true → Done (askedBy byte)
   first-zero e a =
-      rw e (ordered Asks (presented lock payload) fails (λ p. unlocks e (rw e at a) p))
+      rw e (guarded Asks (presented lock payload) (λ f. fails) (λ p. unlocks e (rw e at a) p))
 
   first-eight : byte ≡ 8 → allowed byte (lock .locked) ≡ true → Done (askedBy byte)
   first-eight e a =
-      rw e (ordered Asks (not protected) fails (λ p. erases e (rw e at a) (not-true protected p)))
+      rw e (guarded Asks (not protected) (λ f. fails) (λ p. erases e (rw e at a) (not-true protected p)))
 
   -- set, clear, lock, set and lock, and what is not listed
   first-other : eqb byte 0 ≡ false → eqb byte 8 ≡ false → allowed byte (lock .locked) ≡ true → Done (askedBy byte)
   first-other n0 n8 a =
       let free : lock .locked ≡ false = not-true (lock .locked) (simp (n0, n8) at a) in
       simp (n0, n8)
-      (picked Done (eqb byte 1) (λ t. ordered Asks (settable lock payload) fails (λ p. others _ free))
-      (λ t. picked Done (eqb byte 2) (λ t. ordered Asks (presented lock payload) fails (λ p. others _ free))
-      (λ t. picked Done (eqb byte 4) (λ t. ordered Asks (presented lock payload) fails (λ p. others _ free))
-      (λ t. picked Done (eqb byte 5) (λ t. ordered Asks (settable lock payload) fails (λ p. others _ free)) (λ t. fails)))))
+      (picked Done (eqb byte 1) (λ t. guarded Asks (settable lock payload) (λ f. fails) (λ p. others _ free))
+      (λ t. picked Done (eqb byte 2) (λ t. guarded Asks (presented lock payload) (λ f. fails) (λ p. others _ free))
+      (λ t. picked Done (eqb byte 4) (λ t. guarded Asks (presented lock payload) (λ f. fails) (λ p. others _ free))
+      (λ t. picked Done (eqb byte 5) (λ t. guarded Asks (settable lock payload) (λ f. fails) (λ p. others _ free)) (λ t. fails)))))
 
   pub asks : Asks (requestOf lock payload protected)
   unfolding requestOf
   asks =
-      ordered Asks (leb 1 (length payload)) fails
+      guarded Asks (leb 1 (length payload)) (λ f. fails)
       (λ l.
-      ordered Asks (allowed byte (lock .locked)) fails
+      guarded Asks (allowed byte (lock .locked)) (λ f. fails)
       (λ a.
       cases (eqb byte 0) (λ t. first-zero (eqb-true byte 0 t) a)
       (λ n0. cases (eqb byte 8) (λ t. first-eight (eqb-true byte 8 t) a) (λ n8. first-other n0 n8 a))))

@@ -1,22 +1,17 @@
 -- What the commands of a run that reads do to an unlocked card.
---   read-framing      a written frame is framed, and its CRC7 right
 --   Leaves            the state and the block length that a command leaves, and that nothing changes in what is lent
 --   leaves-12, leaves-16, leaves-17    CMD12 in rcv, CMD16 of 512 in tran, CMD17 in tran at an aligned address in range
---   frame-judged, frame-step    a frame that carries such a command leaves what the command leaves
 -- Assumes nothing.
-use mathlib.Core.Path.{_≡_, refl, sym, ap, subst, _∙_}
+use mathlib.Core.Path.{_≡_, refl, sym, subst}
 use mathlib.Core.Bool.{Bool, true, false}
-use mathlib.Core.List.{List}
-use Prim.Native.Nat.{ℕ, _+_, _%_, _^_, _≤_, _<_}
+use Prim.Native.Nat.{ℕ, _+_, _%_, _≤_}
 use native.Mathlib.Omega.{arith}
 use borrow.Author.Tests.{le-leb, le-ltb}
-use Rattle.card.specs.Frame.{metAlone, commanded, frameJudged, spares, sparedTold, frameOf as frameStep}
-use Rattle.card.specs.declared.FrameJudged.{FrameJudged}
+use Rattle.card.specs.Frame.{metAlone}
 use Rattle.command.specs.Answers.{answered}
 use Rattle.command.specs.Arguments.{argumentFault}
 use Rattle.command.specs.Command.{concluded, takenOf, commandOf}
 use Rattle.command.specs.Obey.{leaving, taggingOf, judgedOf, awaitedBy, obeyed, changeOf}
-use Rattle.command.specs.declared.Change.{Change}
 use Rattle.command.specs.declared.Change.the-variants.{Nothing}
 use Rattle.command.specs.declared.Commanded.{Commanded}
 use Rattle.command.specs.declared.Met.{Met}
@@ -29,22 +24,7 @@ use Rattle.states.specs.declared.Incoming.{Incoming}
 use Rattle.states.specs.declared.Outgoing.the-variants.{One}
 use Rattle.states.specs.declared.State.{State}
 use Rattle.states.specs.declared.State.the-variants.{Tran, Data, Rcv, Prg}
-use Rattle.store.specs.Map.{lentRight}
 use Rattle.tags.specs.Tagging.{noTags}
-use Rattle.wire.specs.Frames.{commandFrame, framingOf, checked, frameOf}
-use Rattle.wire.specs.declared.Frame.the-variants.{Command}
-use Rattle.wire.specs.declared.Framing.{Framing}
-use Rattle.wire.specs.declared.Framing.the-variants.{Framed, Unframed}
-use Rattle.wire.proofs.FrameTheorems.{read-after-write}
-
-right : (framing : Framing) (index argument : ℕ) → checked framing ≡ Command index argument → framing ≡ Framed index argument true
-right (Framed i a true) index argument e = let ei : i ≡ index = cc in let ea : a ≡ argument = cc in rw (ei, ea)
-right (Framed i a false) index argument e = let z : _≡_ {A = ℕ} 0 1 = cc in absurd (omega arith)
-right (Unframed refusal) index argument e = let z : _≡_ {A = ℕ} 0 1 = cc in absurd (omega arith)
-
-pub read-framing : (index argument : ℕ) → index < 64 → argument < 2 ^ 32 → framingOf (commandFrame index argument) ≡ Framed index argument true
-unfolding frameOf
-read-framing index argument hi ha = right (framingOf (commandFrame index argument)) index argument (read-after-write index argument hi ha)
 
 pub record Leaves (state : State) (length : ℕ) (given : Commanded) : Type 0 where
   pub state-is : given .link .state ≡ state
@@ -93,18 +73,3 @@ module _ (card : Card) (unlocked : card .lock .locked ≡ false) where
 
     pub leaves-17 : card .link .state ≡ Tran → card .link .length ≡ 512 → Leaves (Data (One at)) 512 (commandOf (card .link) (metAlone card) 17 at)
     leaves-17 e n = at-open (Leaves (Data (One at)) 512) card 17 at Tran 512 unlocked e n read
-
-module _ (card : Card) (frame : List ℕ) (memory : ℕ) (map : List ℕ) (index argument : ℕ)
-    (is : framingOf frame ≡ Framed index argument true) (lent : lentRight memory map (card .registers .groups) ≡ true) where
-  pub frame-judged : frameJudged card frame memory map ≡ commanded card (commandOf (card .link) (metAlone card) index argument)
-  unfolding frameJudged
-  frame-judged = rw (lent, is)
-
-  -- where nothing changes in what is lent, nothing is spared
-  pub frame-step : commandOf (card .link) (metAlone card) index argument .change ≡ Nothing
-      → frameStep card frame memory map ≡ commanded card (commandOf (card .link) (metAlone card) index argument) .stepped
-  unfolding frameStep
-  frame-step unchanged =
-      let given : Commanded = commandOf (card .link) (metAlone card) index argument in
-      ap (λ (j : FrameJudged). sparedTold (j .stepped) (spares card memory map (j .change))) frame-judged
-      ∙ ap (λ (c : Change). sparedTold (commanded card given .stepped) (spares card memory map c)) unchanged

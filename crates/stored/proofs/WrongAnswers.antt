@@ -20,6 +20,7 @@ use mathlib.Core.Logic.{_⊎_, inl, inr}
 use Prim.Native.Nat.{ℕ}
 use native.Mathlib.Omega.{arith}
 use lib.ListN.{length, getD, replicate}
+use Rattle.base.proofs.Cases.{clash, opposite}
 use Rattle.base.specs.declared.Refusal.{Refusal}
 use Rattle.card.specs.BlockIn.{blockGood, writeJudged, requestJudged, awaitedJudged, blockJudged, keptOf}
 use Rattle.card.specs.Frame.{frameJudged}
@@ -59,7 +60,6 @@ use Rattle.wire.specs.declared.Frame.the-variants.{Command}
 use Rattle.stored.specs.Changes.{SetBy, GrantedWrite, Cause, written, erased as by-tag, forced, MapCause, set}
 use Rattle.stored.specs.Locked.{UnlockGranted, Unlocking, none-stored, unlocked}
 use Rattle.stored.specs.Locked.{forced as by-force}
-use Rattle.stored.proofs.Protected.{opposite}
 
 module _ (card : Card) (input : List ℕ) (memory : ℕ) (map : List ℕ) where
   -- a byte changes at a frame or at a block in, and at no other call
@@ -70,38 +70,38 @@ module _ (card : Card) (input : List ℕ) (memory : ℕ) (map : List ℕ) where
 
   power-erases : (sector : ℕ) → Cause card PowerOn input memory map sector → ⊥
   power-erases sector =
-      no-cause PowerOn sector (λ c. let z : _≡_ {A = ℕ} 0 1 = cc in omega arith) (λ c. let z : _≡_ {A = ℕ} 0 1 = cc in omega arith)
+      no-cause PowerOn sector (λ c. clash cc) (λ c. clash cc)
 
   work-erases : (sector : ℕ) → Cause card WorkDone input memory map sector → ⊥
   work-erases sector =
-      no-cause WorkDone sector (λ c. let z : _≡_ {A = ℕ} 0 1 = cc in omega arith) (λ c. let z : _≡_ {A = ℕ} 0 1 = cc in omega arith)
+      no-cause WorkDone sector (λ c. clash cc) (λ c. clash cc)
 
   out-erases : (sector : ℕ) → Cause card BlockOut input memory map sector → ⊥
   out-erases sector =
-      no-cause BlockOut sector (λ c. let z : _≡_ {A = ℕ} 0 1 = cc in omega arith) (λ c. let z : _≡_ {A = ℕ} 0 1 = cc in omega arith)
+      no-cause BlockOut sector (λ c. clash cc) (λ c. clash cc)
 
   spared-erased : (sector : ℕ) → protectedIn map (csdProtects (card .registers .csd)) sector ≡ true → Cause card Frame input memory map sector → ⊥
-  spared-erased sector p (written at w e) = let c = w .called in let z : _≡_ {A = ℕ} 0 1 = cc in omega arith
+  spared-erased sector p (written at w e) = let c = w .called in clash cc
   spared-erased sector p (by-tag t) = opposite (protectedIn map (csdProtects (card .registers .csd)) sector) p (t .unprotected)
-  spared-erased sector p (forced f) = let c = f .called in let z : _≡_ {A = ℕ} 0 1 = cc in omega arith
+  spared-erased sector p (forced f) = let c = f .called in clash cc
 
   untagged-erased : (sector : ℕ) → taggedOf (card .link .tags) sector ≡ false → Cause card Frame input memory map sector → ⊥
-  untagged-erased sector u (written at w e) = let c = w .called in let z : _≡_ {A = ℕ} 0 1 = cc in omega arith
+  untagged-erased sector u (written at w e) = let c = w .called in clash cc
   untagged-erased sector u (by-tag t) = opposite (taggedOf (card .link .tags) sector) (t .tagged) u
-  untagged-erased sector u (forced f) = let c = f .called in let z : _≡_ {A = ℕ} 0 1 = cc in omega arith
+  untagged-erased sector u (forced f) = let c = f .called in clash cc
 
   status-erases : (sector argument : ℕ) → frameOf input ≡ Command 13 argument → Cause card Frame input memory map sector → ⊥
-  status-erases sector argument r (written at w e) = let c = w .called in let z : _≡_ {A = ℕ} 0 1 = cc in omega arith
+  status-erases sector argument r (written at w e) = let c = w .called in clash cc
   status-erases sector argument r (by-tag t) = let z : _≡_ {A = ℕ} 13 38 = cc (sym r ∙ t .command) in omega arith
-  status-erases sector argument r (forced f) = let c = f .called in let z : _≡_ {A = ℕ} 0 1 = cc in omega arith
+  status-erases sector argument r (forced f) = let c = f .called in clash cc
 
   refused-stores : (at : ℕ) (refusal : Refusal) → blockJudged card input memory map .stepped .reply .outcome ≡ Refused refusal
       → GrantedWrite card BlockIn input memory map at → ⊥
-  refused-stores at refusal r w = let g = w .granted 0 in let z : _≡_ {A = ℕ} 0 1 = cc in omega arith
+  refused-stores at refusal r w = let g = w .granted 0 in clash cc
 
   power-clears : (group : ℕ) → MapCause card PowerOn input memory map group → ⊥
-  power-clears group (set s) = let c = s .called in let z : _≡_ {A = ℕ} 0 1 = cc in omega arith
-  power-clears group (forced f) = let c = f .called in let z : _≡_ {A = ℕ} 0 1 = cc in omega arith
+  power-clears group (set s) = let c = s .called in clash cc
+  power-clears group (forced f) = let c = f .called in clash cc
 
   -- the index of a frame that sets or clears a group
   neither : (index argument other group : ℕ) → (index ≡ 28 → ⊥) → (index ≡ 29 → ⊥) → frameOf input ≡ Command index argument
@@ -112,22 +112,22 @@ module _ (card : Card) (input : List ℕ) (memory : ℕ) (map : List ℕ) where
   status-protects : (group argument : ℕ) → frameOf input ≡ Command 13 argument → MapCause card Frame input memory map group → ⊥
   status-protects group argument r (set s) =
       neither 13 argument (s .argument) group (λ e. omega arith) (λ e. omega arith) r (s .taken)
-  status-protects group argument r (forced f) = let c = f .called in let z : _≡_ {A = ℕ} 0 1 = cc in omega arith
+  status-protects group argument r (forced f) = let c = f .called in clash cc
 
   set-or-not : (other group argument : ℕ) → frameOf input ≡ Command 28 argument → frameJudged card input memory map .change ≡ Protect group false
       → SetBy card Frame input memory map 28 true other group ⊎ SetBy card Frame input memory map 29 false other group → ⊥
-  set-or-not other group argument r p (inl c) = let e = sym p ∙ c .1 in let z : _≡_ {A = ℕ} 0 1 = cc in omega arith
+  set-or-not other group argument r p (inl c) = let e = sym p ∙ c .1 in clash cc
   set-or-not other group argument r p (inr c) = let e = sym r ∙ c .0 in let z : _≡_ {A = ℕ} 28 29 = cc in omega arith
 
   set-clears : (group argument : ℕ) → frameOf input ≡ Command 28 argument → frameJudged card input memory map .change ≡ Protect group false
       → MapCause card Frame input memory map group → ⊥
   set-clears group argument r p (set s) = set-or-not (s .argument) group argument r p (s .taken)
-  set-clears group argument r p (forced f) = let c = f .called in let z : _≡_ {A = ℕ} 0 1 = cc in omega arith
+  set-clears group argument r p (forced f) = let c = f .called in clash cc
 
   frame-unlocks : Unlocking card Frame input memory map → ⊥
-  frame-unlocks (none-stored c n) = let z : _≡_ {A = ℕ} 0 1 = cc in omega arith
-  frame-unlocks (by-force f) = let c = f .called in let z : _≡_ {A = ℕ} 0 1 = cc in omega arith
-  frame-unlocks (unlocked u) = let c = u .called in let z : _≡_ {A = ℕ} 0 1 = cc in omega arith
+  frame-unlocks (none-stored c n) = clash cc
+  frame-unlocks (by-force f) = let c = f .called in clash cc
+  frame-unlocks (unlocked u) = let c = u .called in clash cc
 
   prefix-unlocks : (call : Call) → (length (passwordIn (payloadOf input)) ≡ length (stored (card .lock)) → ⊥) → UnlockGranted card call input memory map → ⊥
   prefix-unlocks call ne u = ne (ap length (u .password))
@@ -137,8 +137,8 @@ module _ (card : Card) (input : List ℕ) (memory : ℕ) (map : List ℕ) where
 
   password-kept : length (stored (card .lock)) ≡ 1 → Unlocking card PowerOn input memory map → ⊥
   password-kept l (none-stored c n) = omega arith
-  password-kept l (by-force f) = let c = f .called in let z : _≡_ {A = ℕ} 0 1 = cc in omega arith
-  password-kept l (unlocked u) = let c = u .called in let z : _≡_ {A = ℕ} 0 1 = cc in omega arith
+  password-kept l (by-force f) = let c = f .called in clash cc
+  password-kept l (unlocked u) = let c = u .called in clash cc
 
 -- ---- samples: a card of 8,192 bytes
 abbrev sample : State → ℕ → Lock → Tags → Card

@@ -9,7 +9,7 @@ use Prim.Native.Nat.{ℕ, _+_, _*_, _/_, _≤_, _<_}
 use native.Mathlib.Omega.{arith}
 use borrow.Author.Tests.{leb-true, leb-false, le-leb, lt-leb}
 use lib.Dec.{leb}
-use Rattle.base.proofs.Cases.{cases}
+use Rattle.base.proofs.Cases.{cases, clash}
 use Rattle.base.specs.Choice.{pick}
 use Rattle.status.specs.ErrorBits.{errorBit}
 use Rattle.tags.specs.Made.{MadeTags, takes}
@@ -53,8 +53,8 @@ pub erase-in-memory : (n : ℕ) (tags : Tags) (first last : ℕ) → MadeTags (n
 erase-in-memory n tags first last made e = go (tags .range) made e
   where
     go : (range : Range) → MadeTags (n * 8192) (tagsOf range) → toErase range ≡ FromTo first last → (first ≤ last) × (last < n * 16)
-    go Nothing made e = absurd (let z : _≡_ {A = ℕ} 0 1 = cc in omega arith)
-    go (Start kind f) made e = absurd (let z : _≡_ {A = ℕ} 0 1 = cc in omega arith)
+    go Nothing made e = clash cc
+    go (Start kind f) made e = clash cc
     go (Full kind f l) made e =
         let ef : firstSector kind f ≡ first = cc in
         let el : lastSector kind l ≡ last = cc in

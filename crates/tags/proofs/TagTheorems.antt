@@ -9,6 +9,7 @@ use Prim.Native.Nat.{ℕ, _*_, _≤_, _<_}
 use native.Mathlib.Omega.{arith}
 use borrow.Author.Tests.{ltb-true, leb-true}
 use lib.Dec.{leb, ltb}
+use Rattle.base.proofs.Cases.{clash}
 use Rattle.base.specs.Choice.{unless}
 use Rattle.status.specs.ErrorBits.{errorBit}
 use Rattle.status.specs.declared.ErrorBit.{ErrorBit}
@@ -62,7 +63,7 @@ failed-drops : (bit : ErrorBit) → Drops (failed bit)
 failed-drops bit other e = refl
 
 made-drops : (range : Range) → Drops (made range)
-made-drops range bit e = absurd (let z : _≡_ {A = ℕ} 0 1 = cc in omega arith)
+made-drops range bit e = clash cc
 
 pub start-error-drops : (kind : Kind) (address size : ℕ) → Drops (startTagged kind address size)
 start-error-drops kind address size = after-start Drops failed-drops kind address size (λ h. made-drops (Start kind (placeIn kind address)))

@@ -1,6 +1,7 @@
 -- Theorems of data blocks, over the definitions that the contracts of `write_block` and `check_block` name.
 --   check-after-write   what is written checks, with the length of its payload; check-back, from the front of an output
 --   write-after-check   any block that checks is the one that the writer gives for its payload
+--   Good, good          what is known of a block that checks
 --   flip-refused        any one flipped bit of a good block is refused 17
 -- Assumes nothing.
 use mathlib.Core.Path.{_≡_, refl, sym, ap, ap₂, _∙_, subst}
@@ -16,7 +17,7 @@ use Rattle.base.specs.Choice.{unless}
 use Rattle.base.specs.Output.{laid}
 use Rattle.base.specs.Refusals.{by}
 use Rattle.base.specs.declared.Refusal.{Refusal}
-use Rattle.base.proofs.Cases.{passed}
+use Rattle.base.proofs.Cases.{clash, passed}
 use Rattle.base.proofs.Output.{front}
 use Rattle.crc.specs.Bits.{bits, spelt, Below}
 use Rattle.crc.specs.Crc.{remainder, checkSum, generator16, crc16}
@@ -37,7 +38,7 @@ unfolding checkedOf
 judged b lo hi = simp (le-leb 3 (length b) lo, le-leb (length b) 2050 hi)
 
 no-refusal : (r : Refusal) (n : ℕ) → _≡_ {A = Checked} (Refused r) (Payload n) → ⊥
-no-refusal r n e = let z : _≡_ {A = ℕ} 0 1 = cc in omega arith
+no-refusal r n e = clash cc
 
 pub record Good (b : List ℕ) (n : ℕ) : Type 0 where
   pub low : 3 ≤ length b
@@ -45,7 +46,7 @@ pub record Good (b : List ℕ) (n : ℕ) : Type 0 where
   pub crc : told b ≡ crc16 (carried b)
   pub long : length b - 2 ≡ n
 
-good : (b : List ℕ) (n : ℕ) → checkedOf b ≡ Payload n → Good b n
+pub good : (b : List ℕ) (n : ℕ) → checkedOf b ≡ Payload n → Good b n
 unfolding checkedOf
 good b n e =
     let t0 = passed (leb 3 (length b)) (Refused (by 5)) _ (Payload n) (no-refusal (by 5) n) e in

@@ -1,7 +1,7 @@
 -- Theorems of command frames, over the definitions that the contracts of `read_frame` and `write_command` name.
 --   read-after-write   what is written is read back; read-back, from the front of an output
 --   write-after-read   any frame that is read is the one that the writer gives for what was read
---   Sent, read         what is known of the bits of a frame that is read
+--   Sent, read         what is known of the bits of a frame that is read; framing, of how it is framed
 -- Assumes nothing.
 use mathlib.Core.Path.{_≡_, refl, sym, ap, ap₂, _∙_, subst, subst⁻¹}
 use mathlib.Core.Bool.{Bool, true, false}
@@ -18,7 +18,7 @@ use Rattle.base.specs.Output.{fits, laid}
 use Rattle.base.specs.Refusals.{by}
 use Rattle.base.specs.declared.Refusal.{Refusal}
 use Rattle.base.specs.declared.Written.the-variants.{Refused as NotWritten}
-use Rattle.base.proofs.Cases.{passed}
+use Rattle.base.proofs.Cases.{clash, passed}
 use Rattle.base.proofs.Output.{front}
 use Rattle.crc.specs.Bits.{bitsOf, bits, spelt, octets, Below}
 use Rattle.crc.proofs.Bits.{below-append, below-take, below-drop, bitsOf-below, bits-below, length-bits, bitsOf-spelt, bits-octets, octets-bits, spelt-bitsOf, spelt-lt}
@@ -84,7 +84,7 @@ pub record Sent (w : List ℕ) (i a : ℕ) : Type 0 where
   pub crc : field w 40 7 ≡ crc7Of (take 40 w)
 
 no-refusal : (r : Refusal) (i a : ℕ) → _≡_ {A = Framing} (Unframed r) (Framed i a true) → ⊥
-no-refusal r i a e = let z : _≡_ {A = ℕ} 0 1 = cc in omega arith
+no-refusal r i a e = clash cc
 
 sent : (w : List ℕ) (i a : ℕ) → sentOf w ≡ Framed i a true → Sent w i a
 unfolding sentOf
@@ -102,15 +102,16 @@ sent w i a e =
       crc = eqb-true (field w 40 7) (crc7Of (take 40 w)) (cc);
     }
 
-judged : (g : Framing) (i a : ℕ) → checked g ≡ Command i a → g ≡ Framed i a true
-judged (Framed x y true) i a e = let ex : x ≡ i = cc in let ey : y ≡ a = cc in ap₂ (λ (p q : ℕ). Framed p q true) ex ey
-judged (Framed x y false) i a e = let z : _≡_ {A = ℕ} 0 1 = cc in absurd (omega arith)
-judged (Unframed r) i a e = let z : _≡_ {A = ℕ} 0 1 = cc in absurd (omega arith)
+-- a command that is read came in a frame with the right CRC7
+pub framing : (g : Framing) (i a : ℕ) → checked g ≡ Command i a → g ≡ Framed i a true
+framing (Framed x y true) i a e = let ex : x ≡ i = cc in let ey : y ≡ a = cc in ap₂ (λ (p q : ℕ). Framed p q true) ex ey
+framing (Framed x y false) i a e = clash cc
+framing (Unframed r) i a e = clash cc
 
 pub read : (f : List ℕ) (i a : ℕ) → frameOf f ≡ Command i a → (length f ≡ 6) × Sent (bits f) i a
 unfolding frameOf framingOf
 read f i a e =
-    let t = passed (eqb (length f) 6) (Unframed (by 1)) (sentOf (bits f)) (Framed i a true) (no-refusal (by 1) i a) (judged (framingOf f) i a e) in
+    let t = passed (eqb (length f) 6) (Unframed (by 1)) (sentOf (bits f)) (Framed i a true) (no-refusal (by 1) i a) (framing (framingOf f) i a e) in
     (eqb-true (length f) 6 (t .0), sent (bits f) i a (t .1))
 
 -- ---- any frame that is read is the one that the writer gives

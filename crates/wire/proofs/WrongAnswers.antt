@@ -22,6 +22,7 @@ use mathlib.Core.List.{List, [], _∷_, _++_}
 use Prim.Native.Nat.{ℕ, _+_, _*_}
 use native.Mathlib.Omega.{arith}
 use lib.ListN.{getD, replicate}
+use Rattle.base.proofs.Cases.{clash}
 use Rattle.base.specs.Output.{fits}
 use Rattle.base.specs.Refusals.{by}
 use Rattle.base.specs.declared.Written.the-variants.{Bytes}
@@ -47,21 +48,21 @@ a3 = record { ocr = 0x00FF8000 }
 
 crc7-of-four : framingOf (0x40 ∷ 0x00 ∷ 0x00 ∷ 0x00 ∷ 0x00 ∷ 0x95 ∷ []) ≡ Framed 0 0 false → ⊥
 unfolding framingOf sentOf crc7Of remainder divide bits
-crc7-of-four e = let z : _≡_ {A = ℕ} 0 1 = cc in omega arith
+crc7-of-four e = clash cc
 
 command-index-64 : indexed 64 (commandFrame 64 0) (replicate 6 0) ≡ Bytes 6 → ⊥
-command-index-64 e = let z : _≡_ {A = ℕ} 0 1 = cc in omega arith
+command-index-64 e = clash cc
 
 r1-as-a-command : r1Frame a1 ≡ commandFrame 16 0x00000900 → ⊥
 unfolding r1Frame commandFrame sealed crc7Of remainder divide
 r1-as-a-command e = let z : _≡_ {A = ℕ} 0x10 0x50 = ap (λ (l : List ℕ). getD l 0 0) e in omega arith
 
 r1-index-64 : indexed 64 (r1Frame a1) (replicate 6 0) ≡ Bytes 6 → ⊥
-r1-index-64 e = let z : _≡_ {A = ℕ} 0 1 = cc in omega arith
+r1-index-64 e = clash cc
 
 r2-in-16-bytes : fits (r2Frame a2) (replicate 16 0) ≡ Bytes 17 → ⊥
 unfolding r2Frame
-r2-in-16-bytes e = let z : _≡_ {A = ℕ} 0 1 = cc in omega arith
+r2-in-16-bytes e = clash cc
 
 r3-bit-31-clear : r3Frame a3 ≡ 0x3F ∷ octets 4 (bitsOf 32 0x00FF8000) ++ (0xFF ∷ []) → ⊥
 unfolding r3Frame
@@ -81,23 +82,23 @@ last-unmoved e = omega (arith, e)
 
 every-register : registerRight (replicate 16 0) ≡ true → ⊥
 unfolding registerRight lastByte crc7Of remainder divide bits
-every-register e = let z : _≡_ {A = ℕ} 0 1 = cc in omega arith
+every-register e = clash cc
 
 register-of-14 : registerRight (replicate 14 0 ++ (1 ∷ 1 ∷ [])) ≡ true → ⊥
 unfolding registerRight lastByte crc7Of remainder divide bits
-register-of-14 e = let z : _≡_ {A = ℕ} 0 1 = cc in omega arith
+register-of-14 e = clash cc
 
 payload-2049 : blockWritten (replicate 2049 0) (replicate 2051 0) ≡ Bytes 2051 → ⊥
 unfolding blockWritten
-payload-2049 e = let z : _≡_ {A = ℕ} 0 1 = cc in omega arith
+payload-2049 e = clash cc
 
 sum-of-the-block : checkedOf (0x80 ∷ 0x91 ∷ 0x88 ∷ []) ≡ Refused (by 17) → ⊥
 unfolding checkedOf crc16 checkSum remainder divide bits
-sum-of-the-block e = let z : _≡_ {A = ℕ} 0 1 = cc in omega arith
+sum-of-the-block e = clash cc
 
 every-block : checkedOf (0x80 ∷ 0x91 ∷ 0x89 ∷ []) ≡ Payload 1 → ⊥
 unfolding checkedOf crc16 checkSum remainder divide bits
-every-block e = let z : _≡_ {A = ℕ} 0 1 = cc in omega arith
+every-block e = clash cc
 
 length-of-the-block : checkedOf (0x80 ∷ 0x91 ∷ 0x88 ∷ []) ≡ Payload 3 → ⊥
 unfolding checkedOf crc16 checkSum remainder divide bits

@@ -1,14 +1,14 @@
 -- `record::make` meets its contract: the checks in their order, and then the password.
 -- Assumes nothing.
 use mathlib.Core.Path.{_≡_, sym, _∙_}
-use mathlib.Core.Bool.{Bool, true, false, not, _&&_}
-use Prim.Native.Nat.{ℕ, _/_, _≤_}
+use mathlib.Core.Bool.{Bool, true, false, not}
+use Prim.Native.Nat.{_/_}
 use native.Mathlib.Omega.{arith}
 use borrow.Author.Needs.{needs}
-use borrow.Author.Tests.{leb-true, eq-eqb, ne-eqb, not-true, not-false}
+use borrow.Author.Tests.{eq-eqb, ne-eqb, not-true, not-false}
 use denote.Ref.{now}
-use lib.Dec.{leb}
 use lib.ListN.{length}
+use Rattle.store.proofs.Sectors.{allowed-size}
 use Rattle.store.specs.Map.{mapRight}
 use Rattle.store.specs.Memory.{sizeAllowed}
 use Rattle.wire.specs.Responses.{registerRight}
@@ -22,15 +22,6 @@ wrong told e t = sym e ∙ not-true told t
 
 right : {test : Bool} (told : Bool) → told ≡ test → not told ≡ false → test ≡ true
 right told e t = sym e ∙ not-false told t
-
-second : (a b c : Bool) → (a && b && c) ≡ true → b ≡ true
-second true true c e = cc
-second true false c e = e
-second false b c e = let z : _≡_ {A = ℕ} 0 1 = cc in absurd (omega arith)
-
--- so an allowed size has at most 4,096 groups, a number that fits 16 bits
-few : (bytes : ℕ) → sizeAllowed bytes ≡ true → bytes ≤ 33554432
-few bytes e = leb-true bytes 33554432 (second (leb 8192 bytes) (leb bytes 33554432) _ e)
 
 -- what is known behind each check
 abbrev begun : tie.Else1 → tie.Start
@@ -94,10 +85,11 @@ returns-5 c =
     let m = i .before .before in
     simp (c .fail5 .ensures, sized (m .before .before), mapped m, cid-right i, csd-right d, eq-eqb _ _ (c .before .if5 .taken))
 
+-- an allowed size has at most 4,096 groups, a number that fits 16 bits
 cast-t17 : tie.Need-cast-t17
 cast-t17 c =
     let e = c .before .before .before .before .before .before .before in
-    omega (arith, few (length (now (begun e .args .memory))) (sized e))
+    omega (arith, allowed-size (length (now (begun e .args .memory))) (sized e) .1)
 
 returns-6 : tie.Need-returns-6
 unfolding madeOf

@@ -1,0 +1,69 @@
+-- The theorems of this crate for made cards: what they suppose of a card holds of every card that was made.
+--   made-locked              a made card that is locked awaits no write
+--   made-awaiting            one that awaits a write is unlocked, and awaits it at an aligned address of 32 bits
+--   made-read-back, made-read-back-many    a block that a made card stored for CMD24, or for CMD25, is read back
+--   made-locked-keeps        memory and map of a made locked card change only by a granted forced erase
+--   made-unlocks-only        it is unlocked only by a granted forced erase or by an unlock with exactly the stored password: it has one, so
+--                            never by power-on
+-- Assumes nothing.
+use mathlib.Core.Path.{_≡_, subst}
+use mathlib.Core.Bool.{true, false}
+use mathlib.Core.List.{List}
+use mathlib.Core.Logic.{_⊎_, inl, inr}
+use Prim.Native.Nat.{ℕ, _≤_}
+use native.Mathlib.Omega.{arith}
+use lib.ListN.{length, getD}
+use Rattle.base.proofs.Cases.{opposite}
+use Rattle.card.specs.Step.{stepOf, memoryOf, mapOf}
+use Rattle.card.specs.declared.Call.{Call}
+use Rattle.card.specs.declared.Outcome.the-variants.{Done}
+use Rattle.lock.proofs.Stored.{stored-length}
+use Rattle.made.specs.Made.{Waits, Awaits, Made}
+use Rattle.record.specs.Record.{sizeOf}
+use Rattle.record.specs.declared.Card.{Card}
+use Rattle.states.specs.declared.Incoming.{Incoming}
+use Rattle.states.specs.declared.Incoming.the-variants.{One, Many}
+use Rattle.states.specs.declared.State.the-variants.{Rcv}
+use Rattle.store.proofs.Sectors.{allowed-size}
+use Rattle.stored.specs.Changes.{AwaitsWrite, ForcedErase}
+use Rattle.stored.specs.Locked.{LockedCard, UnlockGranted}
+use Rattle.stored.specs.ReadBack.{World, blockIn, storedThenRead, storedStoppedThenRead, Awaiting, ReadsBack}
+use Rattle.stored.proofs.Locked.{locked-keeps, unlocks-by-request}
+use Rattle.stored.proofs.ReadBack.{read-back, read-back-many}
+
+module _ (card : Card) (made : Made card) where
+  -- what a made card in rcv awaits
+  work : (incoming : Incoming) → card .link .state ≡ Rcv incoming → Awaits (card .registers .groups) (card .link .length) (card .lock .locked) incoming
+  work incoming on = subst (Waits (card .registers .groups) (card .link .length) (card .lock .locked)) on (made .link .work)
+
+  -- "8,192 to 33,554,432 bytes"
+  size-small : sizeOf (card .registers .groups) ≤ 33554432
+  size-small = allowed-size (sizeOf (card .registers .groups)) (made .registers .size) .1
+
+  pub made-awaiting : (at : ℕ) → AwaitsWrite card at → Awaiting card at
+  made-awaiting at (inl on) =
+      let one = work (One at) on in record { unlocked = one .0; aligned = one .1 .1 .0; small = omega (arith, one .1 .0, size-small) }
+  made-awaiting at (inr on) =
+      let many = work (Many at) on in record { unlocked = many .0; aligned = many .1 .1 .0; small = omega (arith, many .1 .0, size-small) }
+
+  module _ (locked : card .lock .locked ≡ true) where
+    pub made-locked : LockedCard card
+    made-locked = record { locked = locked; no-write = λ at awaits. opposite (card .lock .locked) locked (made-awaiting at awaits .unlocked) }
+
+    module _ (call : Call) (input : List ℕ) where
+      pub made-locked-keeps : (memory map : List ℕ) (p : ℕ)
+          → ((getD (memoryOf card call input memory map) p 0 ≡ getD memory p 0 → ⊥) → ForcedErase card call input (length memory) map)
+          × ((getD (mapOf card call input (length memory) map) p 0 ≡ getD map p 0 → ⊥) → ForcedErase card call input (length memory) map)
+      made-locked-keeps = locked-keeps card made-locked call input
+
+      pub made-unlocks-only : (memory : ℕ) (map : List ℕ) (room : ℕ) → stepOf card call input memory map room .card .lock .locked ≡ false
+          → ForcedErase card call input memory map ⊎ UnlockGranted card call input memory map
+      made-unlocks-only memory map room =
+          unlocks-by-request card call input memory map room locked (omega (arith, made .lock .locked locked, stored-length (card .lock) (made .lock .bytes)))
+
+module _ (w : World) (block : List ℕ) (at : ℕ) (made : Made (w .card)) (room : 514 ≤ length (w .output)) (granted : blockIn w block .outcome ≡ Done) where
+  pub made-read-back : w .card .link .state ≡ Rcv (One at) → ReadsBack block (storedThenRead w block at)
+  made-read-back on = read-back w block at (made-awaiting (w .card) made at (inl on)) room on granted
+
+  pub made-read-back-many : w .card .link .state ≡ Rcv (Many at) → ReadsBack block (storedStoppedThenRead w block at)
+  made-read-back-many on = read-back-many w block at (made-awaiting (w .card) made at (inr on)) room on granted
