@@ -3,7 +3,7 @@
 
 use crate::card::Card;
 use crate::script::*;
-use crate::wire::{self, Refusal};
+use crate::wire::{self, hex, Refusal};
 
 /// What a lent output holds before the call.
 const UNTOUCHED: u8 = 0xA5;
@@ -162,9 +162,4 @@ fn with_output(result: Result<String, Refusal>, output: &[u8]) -> String {
 /// "Where HEX is of no bytes, the line ends after the word or number before it."
 fn words(word: &str, bytes: &[u8]) -> String {
     if bytes.is_empty() { word.to_string() } else { format!("{word} {}", hex(bytes)) }
-}
-
-/// "HEX is upper case with no spaces"
-fn hex(bytes: &[u8]) -> String {
-    bytes.iter().map(|byte| format!("{byte:02X}")).collect()
 }

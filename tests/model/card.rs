@@ -175,29 +175,36 @@ impl Card {
     /// "Frame: 1, 2, 3; at a card 12 comes first". None is silence.
     pub fn frame(&mut self, frame: &[u8], memory: &mut [u8], map: &mut [u8]) -> Result<Option<Vec<u8>>, Refusal> {
         self.check_lent(memory, map)?;
-        let command = wire::read_command(frame).inspect_err(|&refusal| {
-            // "3 sets bit 23 of the card [..] unless Inactive"
-            if refusal == 3 && self.state != State::Ina {
-                self.errors |= COM_CRC_ERROR;
-            }
-        })?;
+        let command = wire::read_command(frame).inspect_err(|&refusal| self.note_damaged(refusal))?;
+        Ok(self.hear(command, memory, map))
+    }
+
+    /// "3 sets bit 23 of the card [..] unless Inactive"; "1 and 2 change nothing".
+    pub fn note_damaged(&mut self, refusal: Refusal) {
+        if refusal == 3 && self.state != State::Ina {
+            self.errors |= COM_CRC_ERROR;
+        }
+    }
+
+    /// The "checks in order" of a command whose frame is not refused. None is silence.
+    pub fn hear(&mut self, command: Command, memory: &mut [u8], map: &mut [u8]) -> Option<Vec<u8>> {
         // "1. Inactive: silent, unchanged."
         if self.state == State::Ina {
-            return Ok(None);
+            return None;
         }
         // "CMD0, legal and silent in every state but Inactive"
         if command.index == 0 {
             self.reset();
-            return Ok(None);
+            return None;
         }
         if self.is_passed_over(command) {
-            return Ok(None);
+            return None;
         }
         if !self.has_legal_move(command) {
             self.note_illegal(command);
-            return Ok(None);
+            return None;
         }
-        Ok(self.take(command, memory, map))
+        self.take(command, memory, map)
     }
 
     /// Own: "argument bits 31..16" are the card's address.

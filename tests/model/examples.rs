@@ -5,6 +5,8 @@
 
 mod bench;
 mod blocks;
+mod bus;
+mod bus_bench;
 mod card;
 mod erase;
 mod lock;
@@ -12,16 +14,12 @@ mod moves;
 mod script;
 mod wire;
 
+use bus::Bus;
+use bus_bench::BusRecord;
 use card::*;
+use wire::register;
 
 const OCR: u32 = 0x00FF_8000;
-
-fn register(first: &[u8; 15]) -> [u8; 16] {
-    let mut register = [0; 16];
-    register[..15].copy_from_slice(first);
-    register[15] = wire::last_byte(first);
-    register
-}
 
 fn made(password: &[u8]) -> Result<Card, u8> {
     let zeros = register(&[0; 15]);
@@ -78,6 +76,102 @@ fn the_second_cid_of_the_shared_line() {
     let mut first = [0; 15];
     first[14] = 1;
     assert_eq!(wire::r2(&register(&first)), bytes("3F00000000000000000000000000000113"));
+}
+
+/// An identifier of 14 zero bytes and this one.
+fn added(last: u8) -> Vec<u8> {
+    BusRecord::Add(std::array::from_fn(|place| if place < 14 { 0 } else { last })).written()
+}
+
+/// All that `busline` prints for these cards and then these frames.
+fn printed(cards: &[u8], frames: &[&str]) -> Vec<String> {
+    let mut script: Vec<u8> = cards.iter().flat_map(|&last| added(last)).collect();
+    script.extend(frames.iter().flat_map(|frame| [vec![0x02], bytes(frame)].concat()));
+    let mut lines = Vec::new();
+    bus_bench::run(&script, |line| lines.push(line.to_string()));
+    lines
+}
+
+const WHO: &str = "42000000004D";
+
+#[test]
+fn the_eight_lines_of_the_shared_line() {
+    let frames = ["4100FF800099", WHO, "43000100007F", WHO, "43000200009D", WHO];
+    let expected = "
+        card 1
+        card 2
+        1 line 3F80FF8000FF
+        2 line 3F00000000000000000000000000000001
+        3 line 0300000500FB
+        4 line 3F00000000000000000000000000000113
+        5 line 0300000500FB
+        6 silent";
+    let expected: Vec<&str> = expected.trim().lines().map(str::trim).collect();
+    assert_eq!(printed(&[1, 0], &frames), expected);
+}
+
+#[test]
+fn two_clones() {
+    let frames = ["4100FF800099", WHO, "43000100007F", WHO, "4D0001000053"];
+    let lines = printed(&[0, 0], &frames);
+    assert_eq!(lines[3], "2 line 3F00000000000000000000000000000001");
+    assert_eq!(lines[4..], ["3 line 0300000500FB", "4 silent", "5 line 0D00000700FB"]);
+}
+
+#[test]
+fn counts_of_cards() {
+    assert_eq!(printed(&[], &["400000000095"]), ["refused 13"]);
+    assert_eq!(printed(&[7], &["400000000095"]), ["card 1", "1 silent"]);
+    for (count, last) in [(30, "card 30"), (31, "refused 13")] {
+        let cards: Vec<u8> = (1..=count).collect();
+        let lines = printed(&cards, &["4100FF800099", WHO]);
+        let [.., added, _, lowest] = &lines[..] else { panic!("too few lines") };
+        assert_eq!(added, last);
+        assert_eq!(lowest, "2 line 3F00000000000000000000000000000113");
+    }
+}
+
+/// Four cards in Stand-by, Ready, Idle and Inactive, all with an identifier of zeros.
+fn four_cards() -> Bus {
+    let mut bus = Bus::default();
+    for state in [State::Stby, State::Ready, State::Idle, State::Ina] {
+        let mut card = made(&[]).unwrap();
+        card.state = state;
+        bus.add(card).unwrap();
+    }
+    bus
+}
+
+#[test]
+fn damage_reaches_every_card_but_an_inactive_one() {
+    let mut bus = four_cards();
+    assert_eq!(bus.frame(&bytes("400000000097")), Err(3));
+    let errors: Vec<u32> = bus.cards.iter().map(|card| card.errors).collect();
+    assert_eq!(errors, [COM_CRC_ERROR, COM_CRC_ERROR, COM_CRC_ERROR, 0]);
+}
+
+#[test]
+fn other_refusals_change_no_card() {
+    let mut bus = four_cards();
+    bus.cards[0].state = State::Tran;
+    let before = bus.cards.clone();
+    for (frame, refusal) in [("4D00010000", 1), ("CD0001000053", 2), ("4D0001000052", 2), ("500000020015", 14)] {
+        assert_eq!(bus.frame(&bytes(frame)), Err(refusal));
+        assert_eq!(bus.cards, before);
+    }
+}
+
+#[test]
+fn a_loser_is_unchanged() {
+    let mut bus = four_cards();
+    let mut loser = bus.cards[1].clone();
+    loser.cid = register(&[1; 15]);
+    loser.errors = COM_CRC_ERROR | ILLEGAL_COMMAND | ERASE_RESET;
+    bus.add(loser).unwrap();
+    let mut expected = bus.cards.clone();
+    expected[1].state = State::Ident;
+    assert_eq!(bus.frame(&bytes(WHO)), Ok(Some(bytes("3F00000000000000000000000000000001"))));
+    assert_eq!(bus.cards, expected);
 }
 
 #[test]

@@ -65,8 +65,8 @@ fn making(dice: &mut Dice) -> Making {
         memory_length,
         filled_with: dice.byte(),
         map: (0..memory_length / 8_192).map(|_| dice.percent(map_chance) as u8).collect(),
-        cid: register(cid),
-        csd: register(csd),
+        cid: wire::register(&cid),
+        csd: wire::register(&csd),
         ocr: dice.pick(&[0x00FF_8000, 0x80FF_8000, 0x0000_0001, 0x0080_0000, 0x5500_0100, 0x00FF_FFFF]),
         password: vec![dice.pick(b"AB"); letters],
     };
@@ -77,10 +77,6 @@ fn making(dice: &mut Dice) -> Making {
         }
     }
     making
-}
-
-fn register(first: [u8; 15]) -> [u8; 16] {
-    std::array::from_fn(|place| if place < 15 { first[place] } else { wire::last_byte(&first) })
 }
 
 /// One thing for which a make is refused, or is too big.

@@ -1,4 +1,4 @@
-//! Turns a script written in HEX into the bytes that `cardline` reads: `unhex < NAME.hex > NAME.bin`.
+//! Turns a script written in HEX into the bytes that the programs read: `unhex < NAME.hex > NAME.bin`.
 //! Spaces and newlines are ignored; `#` begins a comment that runs to the end of its line.
 //! Build: rustc -O unhex.rs
 

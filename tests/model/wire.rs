@@ -140,3 +140,13 @@ pub fn check_block(block: &[u8]) -> Result<(), Refusal> {
     }
     Ok(())
 }
+
+/// Bytes as the programs print them: "HEX is upper case with no spaces".
+pub fn hex(bytes: &[u8]) -> String {
+    bytes.iter().map(|byte| format!("{byte:02X}")).collect()
+}
+
+/// A CID or CSD from its first 15 bytes: it ends "in the CRC7 of their first 15 bytes, then a 1".
+pub fn register(first: &[u8; 15]) -> [u8; 16] {
+    std::array::from_fn(|place| if place < 15 { first[place] } else { last_byte(first) })
+}
