@@ -1,1 +1,3 @@
 pub mod Bus
+pub mod Contest
+pub mod Hearing

@@ -3,10 +3,17 @@
 // records and any count may come in, so no call has a `requires`.
 //
 // Offers: `Bus`, `empty`, `Added`, `add`; `Shown`, `Framed`, `frame`; `Taken`, `take`, `put`.
+mod contest;
+mod hearing;
+
 use base::Refusal;
+use hearing::command_for;
 use record::Card;
+use wire::Framing;
+ghost use mathlib.Core.List.{map};
 ghost use mathlib.Core.Path.{_≡_};
-ghost use Rattle.bus.specs.Bus.{emptyBus, addedTo, takenFrom, putInto, busFrame};
+ghost use Prim.Native.Nat.{min};
+ghost use Rattle.bus.specs.Bus.{most, cardsOf, withCards, emptyBus, addedTo, takenFrom, putInto, refusedOn, damagedCard, busFrame};
 
 // The cards in the places from 0 on; a count over 30 reads as 30.
 pub struct Bus {
@@ -43,4 +50,158 @@ pub struct Framed {
 pub struct Taken {
     pub card: Card,
     pub found: bool,
+}
+
+// The smallest CID among the cards that send theirs, if any does.
+pub struct Low {
+    pub any: bool,
+    pub cid: [u8; 16],
+}
+
+// How a CID stands to another, as numbers.
+pub enum Order {
+    Smaller,
+    Same,
+    Larger,
+}
+
+// What the line holds of the frames so far: their AND, and the length of the longest.
+pub struct Heard {
+    pub line: [u8; 17],
+    pub length: usize,
+}
+
+// A card after its turn, and what the line then holds.
+pub struct Turned {
+    pub card: Card,
+    pub heard: Heard,
+}
+
+// How many cards a count stands for: one over 30 reads as 30.
+fn places(count: usize) -> usize
+    ensures { λ r. ⌜ r ≡ min count most ⌝ }
+{
+    if count < 30 {
+        return count;
+    }
+    30
+}
+
+// A bus with no card.
+pub fn empty() -> Bus
+    ensures answer { λ r. ⌜ r ≡ emptyBus ⌝ }
+{
+    let none = record::refused_make();
+    let cards = [none; 30];
+    Bus { cards, count: 0 }
+}
+
+// A card in the next place: 13 where there is none.
+pub fn add(bus: Bus, card: Card) -> Added
+    ensures answer { λ r. ⌜ r ≡ addedTo bus card ⌝ }
+{
+    let place = places(bus.count);
+    if 30 <= place {
+        return Added {
+            bus,
+            adding: Adding::Refused(Refusal::BusCards),
+        };
+    }
+    let mut next = bus;
+    next.cards[place] = card;
+    next.count = place + 1;
+    Added {
+        bus: next,
+        adding: Adding::Place(place),
+    }
+}
+
+// The card in a place, for its own calls.
+pub fn take(bus: Bus, place: usize) -> Taken
+    ensures answer { λ r. ⌜ r ≡ takenFrom bus place ⌝ }
+{
+    let end = places(bus.count);
+    if end <= place {
+        return Taken {
+            card: record::refused_make(),
+            found: false,
+        };
+    }
+    let card = bus.cards[place];
+    Taken { card, found: true }
+}
+
+// A card back into a place that is taken.
+pub fn put(bus: Bus, place: usize, card: Card) -> Bus
+    ensures answer { λ r. ⌜ r ≡ putInto bus place card ⌝ }
+{
+    let end = places(bus.count);
+    if end <= place {
+        return bus;
+    }
+    let mut next = bus;
+    next.cards[place] = card;
+    next
+}
+
+// A frame that is refused.
+fn refuse(bus: Bus, refusal: Refusal) -> Framed
+    ensures { λ r. ⌜ r ≡ refusedOn bus refusal ⌝ }
+{
+    let line = [0; 17];
+    Framed {
+        bus,
+        shown: Shown::Refused(refusal),
+        line,
+    }
+}
+
+fn damaged(card: Card) -> Card
+    ensures { λ r. ⌜ r ≡ damagedCard card ⌝ }
+{
+    let link = card.link;
+    Card {
+        link: command::damaged(link),
+        ..card
+    }
+}
+
+// A frame with a wrong CRC7, told to every card.
+fn damage(bus: Bus) -> Bus
+    ensures { λ r. ⌜ r ≡ withCards bus (map damagedCard (cardsOf bus)) ⌝ }
+{
+    let end = places(bus.count);
+    let mut next = bus;
+    let mut i: usize = 0;
+    while i < end {
+        let card = next.cards[i];
+        let told = damaged(card);
+        next.cards[i] = told;
+        i += 1;
+    }
+    next
+}
+
+// A frame for all cards: 13, 1, 2, 3, 14.
+pub fn frame(bus: Bus, frame: &[u8]) -> Framed
+    ensures answer { λ r. ⌜ r ≡ busFrame bus (now (frame .entry)) ⌝ }
+{
+    if places(bus.count) < 1 {
+        return refuse(bus, Refusal::BusCards);
+    }
+    let framing = wire::unframe(frame);
+    match framing {
+        Framing::Framed {
+            index,
+            argument,
+            crc_right,
+        } => {
+            if crc_right {
+                command_for(bus, index, argument)
+            } else {
+                refuse(damage(bus), Refusal::FrameCrc)
+            }
+        }
+        Framing::Unframed(refusal) => refuse(bus, refusal),
+    }
 }

@@ -1,1 +1,2 @@
 pub mod Arbitration
+pub mod Together

@@ -1,0 +1,75 @@
+-- `bus::hearing::hear` meets its contract: what is sent is always written, in at most 17 bytes.
+-- Assumes nothing.
+use mathlib.Core.List.{List}
+use mathlib.Core.Path.{_≡_, sym, ap, ap₂, _∙_}
+use Prim.Native.Nat.{ℕ, max}
+use native.Mathlib.Omega.{arith}
+use borrow.Author.Needs.{needs}
+use lib.ListN.{length, take, drop}
+use lib.Seq.{take-at}
+use Rattle.base.specs.Output.{laid}
+use Rattle.base.specs.declared.Written.{Written}
+use Rattle.card.specs.Sent.{sentBytes}
+use Rattle.line.specs.Bytes.{anded}
+use Rattle.bus.proofs.Sending.{written-bytes, never-refused}
+use Rattle.bus.proofs.Telling.{zeros}
+use Rattle.bus.specs.Hearing.{heardOf}
+use Rattle.bus.specs.declared.Heard.{Heard}
+use Rattle.bus.proofs.hearing.hear.Statement.{statement}
+use Rattle.bus.proofs.hearing.hear.Tie as tie
+
+abbrev held : List ℕ → ℕ → Heard
+held line length = record { line = line; length = length }
+
+and-requires : tie.Need-and-requires
+and-requires c κs =
+    let s = c .before .before .before .before .before .before .before in
+    let w = c .before .before .before .before .before .write-sent .ensures in
+    let n = c .before .written .given in
+    let a = s .args .registers in
+    let cid : length (a .cid) ≡ 16 = search needs in
+    let csd : length (a .csd) ≡ 16 = search needs in
+    written-bytes a (s .args .sent) zeros (s .pre .1) cid csd (omega arith) _ (w .0) (n .0 .0) (n .1) .1
+
+returns : tie.Need-returns
+unfolding heardOf
+returns c =
+    let s = c .before .before .before .before .before .before .before .before .before in
+    let w = c .before .before .before .before .before .before .before .write-sent .ensures in
+    let n = c .before .before .before .written .given in
+    let a = s .args .registers in
+    let line = s .args .heard .line in
+    let bytes = sentBytes a (s .args .sent) in
+    let cid : length (a .cid) ≡ 16 = search needs in
+    let csd : length (a .csd) ≡ 16 = search needs in
+    let right = written-bytes a (s .args .sent) zeros (s .pre .1) cid csd (omega arith) _ (w .0) (n .0 .0) (n .1) in
+    let sends = w .1 ∙ ap (λ (r : Written). laid r bytes zeros) (n .1) in (
+      ap₂ held
+          (c .before .and .ensures ∙ ap (λ (l : List ℕ). anded line (take (n .0 .0) l)) sends
+          ∙ ap (anded line) (take-at bytes (drop (length bytes) zeros) (n .0 .0) (sym (right .0))))
+          (c .longer .ensures ∙ ap (λ (k : ℕ). max (s .args .heard .length) k) (right .0)),
+      omega (arith, c .longer .ensures, right .1, s .pre .0),
+    )
+
+returns-2 : tie.Need-returns-2
+returns-2 c =
+    let s = c .before .before .before .before .before .before in
+    let w = c .before .before .before .before .write-sent .ensures in
+    let n = c .enum-told .given in
+    let a = s .args .registers in
+    let cid : length (a .cid) ≡ 16 = search needs in
+    let csd : length (a .csd) ≡ 16 = search needs in
+    absurd (never-refused a (s .args .sent) zeros (s .pre .1) cid csd (omega arith) _ (w .0) (n .0 .0) (n .1))
+
+pub hear-spec : {M : Type 1} → statement M
+hear-spec =
+    tie.close
+    (tie.spec
+    (λ c. search needs)
+    (λ c κs. search needs)
+    (λ c. search needs)
+    and-requires
+    (λ c κs. search needs)
+    (λ c. search needs)
+    returns
+    returns-2)

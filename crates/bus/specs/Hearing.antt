@@ -1,0 +1,60 @@
+-- A command for all cards as code carries it out: each takes it in its turn, and what it sends is ANDed into the line. That this is what
+-- the line shows is proved (`told-is-command` in proofs/Hearing).
+-- Assumes nothing.
+use mathlib.Core.Bool.{Bool}
+use mathlib.Core.List.{List, [], _∷_, map}
+use Prim.Native.Nat.{ℕ, _≤_, max}
+use lib.ListN.{length, take, replicate}
+use Rattle.card.specs.Sent.{sentBytes}
+use Rattle.command.specs.Command.{commandOf}
+use Rattle.command.specs.declared.Sent.{Sent}
+use Rattle.command.specs.declared.Sent.the-variants.{Nothing, Status, Cid, Csd, Ocr}
+use Rattle.line.specs.Bytes.{anded}
+use Rattle.record.specs.Record.{withLink}
+use Rattle.record.specs.declared.Card.{Card}
+use Rattle.bus.specs.Bus.{cardsOf, withCards, metWith, cardAfter, lineOf, shownOf, padded}
+use Rattle.bus.specs.declared.Bus.{Bus}
+use Rattle.bus.specs.declared.Framed.{Framed}
+use Rattle.bus.specs.declared.Heard.{Heard}
+use Rattle.bus.specs.declared.Turned.{Turned}
+
+-- the line before anyone sends
+unfoldable pub quiet : Heard
+quiet = record { line = replicate 17 0xFF; length = 0 }
+
+-- what the writers of frames write: an R1's index has 6 bits
+abbrev pub Sendable : Sent → Type 0
+Sendable Nothing = Unit {0}
+Sendable (Status index status) = index ≤ 63
+Sendable Cid = Unit {0}
+Sendable Csd = Unit {0}
+Sendable Ocr = Unit {0}
+
+unfoldable pub heardOf : Heard → List ℕ → Heard
+heardOf heard frame = record { line = anded (heard .line) frame; length = max (heard .length) (length frame) }
+
+unfoldable pub heardFrom : Heard → List (List ℕ) → Heard
+heardFrom heard [] = heard
+heardFrom heard (frame ∷ frames) = heardFrom (heardOf heard frame) frames
+
+-- one card's turn
+unfoldable pub turnOf : Heard → Card → Bool → ℕ → ℕ → Turned
+turnOf heard card wins index argument =
+    record {
+      card = withLink card (commandOf (card .link) (metWith wins card) index argument .link);
+      heard = heardOf heard (sentBytes (card .registers) (commandOf (card .link) (metWith wins card) index argument .sent));
+    }
+
+-- the first bytes of the line, and zeros behind them
+unfoldable pub shownFrom : Bus → Heard → Framed
+shownFrom bus heard =
+    record { bus = bus; shown = shownOf (take (heard .length) (heard .line)); line = padded (take (heard .length) (heard .line)) }
+
+-- a command that the bus takes
+unfoldable pub toldOf : Bus → ℕ → ℕ → Framed
+toldOf bus index argument =
+    record {
+      bus = withCards bus (map (cardAfter (cardsOf bus) index argument) (cardsOf bus));
+      shown = shownOf (lineOf (cardsOf bus) index argument);
+      line = padded (lineOf (cardsOf bus) index argument);
+    }
