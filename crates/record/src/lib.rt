@@ -3,7 +3,7 @@
 // done. Any value of the record may come in, so no call has a `requires`.
 //
 // Offers: `Registers`, `Link`, `Card`; `size`, `csd_protects`, `read_length`, `crosses`, `fresh`; `power_on`,
-// `work_done`; `Making`, `Made`, `make`.
+// `work_done`; `Making`, `Made`, `make`, `refused_make`.
 use base::Refusal;
 use lock::Lock;
 use states::State;
@@ -147,9 +147,9 @@ pub fn work_done(card: Card) -> Card
     }
 }
 
-// The record that a refused make returns.
-fn refused_make() -> Card
-    ensures { λ r. ⌜ r ≡ refusedMake ⌝ }
+// The record that a refused make returns, and that a place of a bus holds where no card is.
+pub fn refused_make() -> Card
+    ensures answer { λ r. ⌜ r ≡ refusedMake ⌝ }
 {
     Card {
         registers: Registers {
