@@ -1,5 +1,7 @@
+pub mod Cids
 pub mod Lists
 pub mod Numbers
 pub mod Sending
 pub mod Telling
 pub mod Winners
+pub mod WrongAnswers

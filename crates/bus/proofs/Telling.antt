@@ -1,7 +1,6 @@
 -- A command for all cards, in turns and all at once.
 --   told-is-command   what the turns leave is what the definition says
 --   line-is-heard     the bytes ANDed into the line are what it shows
---   cid-line          in CMD2 it shows the AND of the frames too: the winners all send the same one
 --   tell-turn         one turn of the loop
 --   turn-right        a card in its turn is told rightly whether it wins
 --   heard-start, heard-turn   one turn more
@@ -9,9 +8,8 @@
 --   shown-silent, shown-bytes   the answer, from the bytes copied to the front of zeros
 -- Assumes nothing.
 use mathlib.Core.Path.{_≡_, refl, sym, ap, ap₂, _∙_, subst}
-use mathlib.Core.Bool.{Bool, true, false, _||_, false≢true}
-use mathlib.Core.List.{List, [], _∷_, _++_, map, List·Memᴰ, List·Memᴰ·head, List·Memᴰ·tail, List·Memᴰ·not-nil, Memᴰ·map, Memᴰ·of-map}
-use mathlib.Core.Logic.{_⊎_, inl, inr, ⊎-elim}
+use mathlib.Core.Bool.{Bool, true, false}
+use mathlib.Core.List.{List, [], _∷_, _++_, map, List·Memᴰ}
 use Prim.Native.Nat.{ℕ, zero, suc, _+_, _*_, _-_, _≤_, _<_, max}
 use native.Mathlib.Numerals.{add-one}
 use native.Mathlib.Omega.{arith}
@@ -23,29 +21,26 @@ use Rattle.base.proofs.Cases.{cases}
 use Rattle.card.specs.Sent.{sentBytes}
 use Rattle.command.specs.Command.{commandOf}
 use Rattle.command.specs.declared.Commanded.{Commanded}
-use Rattle.command.specs.declared.Sent.{Sent}
-use Rattle.crc.proofs.Bits.{octets-bits, octets-below, length-bits, length-octets}
-use Rattle.crc.specs.Bits.{bits, octets, Below}
-use Rattle.line.proofs.Arbitration.{wins-shown, someone, contested-length, contested-below}
-use Rattle.line.proofs.Together.{OneVoice, one-voice, together-is-and}
-use Rattle.line.specs.Bytes.{anded, andedAll}
-use Rattle.line.specs.Line.{Sender, contested, wins, together}
+use Rattle.crc.specs.Bits.{octets, Below}
+use Rattle.line.proofs.Together.{together-is-and}
+use Rattle.line.specs.Bytes.{andedAll}
+use Rattle.line.specs.Line.{together}
 use Rattle.record.specs.Record.{withLink}
 use Rattle.record.specs.declared.Card.{Card}
-use Rattle.wire.specs.Responses.{r2Frame}
+use Rattle.bus.proofs.Cids.{cid-line}
 use Rattle.bus.proofs.Lists.{changed, changed-next, change-turn, first-all, getD-in}
-use Rattle.bus.proofs.Sending.{any-wins, cid-lost, cid-won}
-use Rattle.bus.proofs.Winners.{cid-bitwise, holders}
-use Rattle.bus.specs.Bus.{isReady, cidSender, cidBits, winsLine, metWith, commandAt, cardAfter, frameFrom, anyReady, longestOf, frameSender, cidLine, andLine, lineOf, cardsOf, countOf, withCards, shownOf, padded}
-use Rattle.bus.specs.Contest.{cidOf, noLow, lowFrom, lowFor, holds, Held, HeldAll}
+use Rattle.bus.proofs.Sending.{any-wins}
+use Rattle.bus.proofs.Winners.{holders}
+use Rattle.bus.specs.Bus.{countOf, cardsOf, withCards, winsLine, metWith, commandAt, cardAfter, frameFrom, longestOf, frameSender, cidLine, andLine, lineOf, shownOf, padded}
+use Rattle.bus.specs.Contest.{noLow, lowFrom, lowFor, holds, Held, HeldAll}
 use Rattle.bus.specs.Hearing.{quiet, heardOf, heardFrom, turnOf, shownFrom, toldOf}
 use Rattle.bus.specs.declared.Bus.{Bus}
 use Rattle.bus.specs.declared.Framed.{Framed}
 use Rattle.bus.specs.declared.Heard.{Heard}
 use Rattle.bus.specs.declared.Low.{Low}
-use Rattle.bus.specs.declared.Turned.{Turned}
 use Rattle.bus.specs.declared.Shown.{Shown}
 use Rattle.bus.specs.declared.Shown.the-variants.{Line, Silent}
+use Rattle.bus.specs.declared.Turned.{Turned}
 
 -- ---- turn by turn
 heard-snoc : (heard : Heard) (frames : List (List ℕ)) (frame : List ℕ) → heardFrom heard (frames ++ frame ∷ []) ≡ heardOf (heardFrom heard frames) frame
@@ -111,116 +106,11 @@ module _ (bus : Bus) (index argument : ℕ) where
       let here : getD next i d ≡ card = changed-next after i cards next d en in
       let right = turn-right bus index argument low card found held (getD-in (countOf bus) cards i d there (omega arith)) in
       let told : turned ≡ turnOf heard card (holds low card) index argument =
-        et ∙ ap₂ (λ (c : Card) (w : Bool). turnOf heard c w index argument) here (ew ∙ ap (holds low) here) in
+      et ∙ ap₂ (λ (c : Card) (w : Bool). turnOf heard c w index argument) here (ew ∙ ap (holds low) here) in
       let is : turned .card ≡ after card = ap (λ (t : Turned). t .card) told ∙ ap (λ (g : Commanded). withLink card (g .link)) right in
       let holds : turned .heard ≡ heardOf heard (frame card) =
-        ap (λ (t : Turned). t .heard) told ∙ ap (λ (g : Commanded). heardOf heard (sentBytes (card .registers) (g .sent))) right in
+      ap (λ (t : Turned). t .heard) told ∙ ap (λ (g : Commanded). heardOf heard (sentBytes (card .registers) (g .sent))) right in
       (change-turn after i cards next (turned .card) d en is, heard-turn frame cards i d heard (turned .heard) (omega arith) eh holds)
-
--- ---- CMD2
-any-ready : (cards : List Card) → anyReady cards ≡ true → (card : Card) × List·Memᴰ card cards × (isReady card ≡ true)
-unfolding anyReady
-any-ready [] e = absurd (false≢true e)
-any-ready (x ∷ cards) e =
-    cases (isReady x)
-    (λ (t : isReady x ≡ true). (x, List·Memᴰ·head refl, t))
-    (λ (t : isReady x ≡ false). let w = any-ready cards (rw t at e) in (w .0, List·Memᴰ·tail (w .1), w .2))
-
-none-ready : (cards : List Card) → anyReady cards ≡ false → (card : Card) → List·Memᴰ card cards → isReady card ≡ false
-unfolding anyReady
-none-ready [] e card m = absurd (List·Memᴰ·not-nil m)
-none-ready (x ∷ cards) e card (List·Memᴰ·head p) =
-    cases (isReady card) (λ (t : isReady card ≡ true). let u : isReady x ≡ true = ap isReady (sym p) ∙ t in absurd (false≢true (sym (rw u at e)))) (λ t. t)
-none-ready (x ∷ cards) e card (List·Memᴰ·tail m) =
-    cases (isReady x)
-    (λ (t : isReady x ≡ true). absurd (false≢true (sym (rw t at e))))
-    (λ (t : isReady x ≡ false). none-ready cards (rw t at e) card m)
-
--- how long the line is where each frame is empty or the same
-longest-within : (voice : List ℕ) (frames : List (List ℕ)) → OneVoice voice frames → longestOf frames ≤ length voice
-unfolding longestOf
-longest-within voice [] h = omega arith
-longest-within voice (frame ∷ frames) h =
-    let below = longest-within voice frames (λ f m. h f (List·Memᴰ·tail m)) in
-    ⊎-elim
-    (λ (e : frame ≡ []). let n : length frame ≡ 0 = ap length e in omega arith)
-    (λ (e : frame ≡ voice). let n : length frame ≡ length voice = ap length e in omega arith)
-    (h frame (List·Memᴰ·head refl))
-
-longest-least : (voice : List ℕ) (frames : List (List ℕ)) → List·Memᴰ voice frames → length voice ≤ longestOf frames
-unfolding longestOf
-longest-least voice [] m = absurd (List·Memᴰ·not-nil m)
-longest-least voice (frame ∷ frames) (List·Memᴰ·head e) = let n : length voice ≡ length frame = ap length e in omega arith
-longest-least voice (frame ∷ frames) (List·Memᴰ·tail m) = let h = longest-least voice frames m in omega arith
-
-module _ (cards : List Card) (held : (card : Card) → List·Memᴰ card cards → Held card) (argument : ℕ) where
-  abbrev voice : List ℕ
-  voice = 0x3F ∷ octets 16 (contested cidBits (map cidSender cards))
-
-  abbrev frames : List (List ℕ)
-  frames = map (frameFrom cards 2 argument) cards
-
-  frame-lost : (card : Card) → winsLine cards card ≡ false → frameFrom cards 2 argument card ≡ []
-  unfolding frameFrom commandAt sentBytes
-  frame-lost card t =
-      ap (λ (w : Bool). sentBytes (card .registers) (commandOf (card .link) (metWith w card) 2 argument .sent)) t
-      ∙ ap (λ (s : Sent). sentBytes (card .registers) s) (cid-lost card argument)
-
-  frame-won : (card : Card) → List·Memᴰ card cards → winsLine cards card ≡ true → frameFrom cards 2 argument card ≡ voice
-  unfolding frameFrom commandAt sentBytes r2Frame
-  frame-won card m t =
-      let h = held card m in
-      let s = wins-shown cidBits (map cidSender cards) (cidSender card) (Memᴰ·map cidSender m) (length-bits (cidOf card) ∙ ap (λ (n : ℕ). n * 8) (h .0)) t in
-      ap (λ (w : Bool). sentBytes (card .registers) (commandOf (card .link) (metWith w card) 2 argument .sent)) t
-      ∙ ap (λ (x : Sent). sentBytes (card .registers) x) (cid-won card argument (s .0))
-      ∙ ap (λ (l : List ℕ). 0x3F ∷ l)
-      (sym (octets-bits (cidOf card) (h .1)) ∙ ap (λ (n : ℕ). octets n (bits (cidOf card))) (h .0) ∙ ap (octets 16) (s .1))
-
-  one-cid : OneVoice voice frames
-  one-cid frame m =
-      let w = Memᴰ·of-map (frameFrom cards 2 argument) cards m in
-      cases (winsLine cards (w .0))
-      (λ (t : winsLine cards (w .0) ≡ true). inr (sym (w .2) ∙ frame-won (w .0) (w .1) t))
-      (λ (t : winsLine cards (w .0) ≡ false). inl (sym (w .2) ∙ frame-lost (w .0) t))
-
-  voice-small : Below 256 voice
-  voice-small =
-      let line : List ℕ = contested cidBits (map cidSender cards) in
-      (omega arith, octets-below 16 line (contested-length cidBits (map cidSender cards)) (contested-below cidBits (map cidSender cards)))
-
-  voice-heard : anyReady cards ≡ true → List·Memᴰ voice frames
-  voice-heard e =
-      let ready = any-ready cards e in
-      let won = someone cidBits (map cidSender cards) (cid-bitwise cards held) (cidSender (ready .0)) (Memᴰ·map cidSender (ready .1)) (ready .2) in
-      let from = Memᴰ·of-map cidSender cards (won .1) in
-      let wins : winsLine cards (from .0) ≡ true = rw (from .2) (won .2) in
-      subst (λ (f : List ℕ). List·Memᴰ f frames) (frame-won (from .0) (from .1) wins) (Memᴰ·map (frameFrom cards 2 argument) (from .1))
-
-  -- where no card is Ready, none wins
-  nobody-wins : anyReady cards ≡ false → (card : Card) → List·Memᴰ card cards → winsLine cards card ≡ false
-  nobody-wins e card m =
-      let h = held card m in
-      cases (winsLine cards card)
-      (λ (t : winsLine cards card ≡ true).
-      let s = wins-shown cidBits (map cidSender cards) (cidSender card) (Memᴰ·map cidSender m) (length-bits (cidOf card) ∙ ap (λ (n : ℕ). n * 8) (h .0)) t in
-      absurd (false≢true (sym (none-ready cards e card m) ∙ s .0)))
-      (λ t. t)
-
-  pub cid-line : cidLine cards ≡ andLine frames
-  unfolding cidLine andLine
-  cid-line =
-      cases (anyReady cards)
-      (λ (e : anyReady cards ≡ true).
-      let m = voice-heard e in
-      let n : longestOf frames ≡ length voice = omega (arith, longest-within voice frames one-cid, longest-least voice frames m) in
-      let left : cidLine cards ≡ voice = simp e in
-      left ∙ sym (ap (λ (k : ℕ). octets k (together (8 * k) (map frameSender frames))) n ∙ one-voice voice frames voice-small one-cid m))
-      (λ (e : anyReady cards ≡ false).
-      let quiet : OneVoice [] frames =
-        λ frame m. (let w = Memᴰ·of-map (frameFrom cards 2 argument) cards m in inl (sym (w .2) ∙ frame-lost (w .0) (nobody-wins e (w .0) (w .1)))) in
-      let n : longestOf frames ≡ 0 = omega (arith, longest-within [] frames quiet) in
-      let left : cidLine cards ≡ [] = simp e in
-      left ∙ sym (ap (λ (k : ℕ). octets k (together (8 * k) (map frameSender frames))) n))
 
 -- ---- all at once
 pub line-is-heard : (bus : Bus) (index argument : ℕ) (heard : Heard) → HeldAll bus index → heard .length ≤ 17 → Below 256 (heard .line)
@@ -234,9 +124,9 @@ line-is-heard bus index argument heard held short small e =
     let line : heard .line ≡ andedAll (replicate 17 255) frames = ap (λ (l : Heard). l .line) e ∙ all .0 in
     let long : heard .length ≡ longestOf frames = ap (λ (l : Heard). l .length) e ∙ all .1 ∙ omega arith in
     let both : andLine frames ≡ take (heard .length) (heard .line) =
-      ap (λ (k : ℕ). octets k (together (8 * k) (map frameSender frames))) (sym long)
-      ∙ together-is-and (heard .length) 17 frames short (subst (Below 256) line small)
-      ∙ ap (take (heard .length)) (sym line) in
+    ap (λ (k : ℕ). octets k (together (8 * k) (map frameSender frames))) (sym long)
+    ∙ together-is-and (heard .length) 17 frames short (subst (Below 256) line small)
+    ∙ ap (take (heard .length)) (sym line) in
     cases (eqb index 2)
     (λ (t : eqb index 2 ≡ true).
     let two : index ≡ 2 = eqb-true index 2 t in

@@ -58,7 +58,7 @@ by-order a b smaller same larger =
     let n = eqb-false (numberOf a) (numberOf b) u in
     let l = ltb-false (numberOf a) (numberOf b) t in
     let h : numberOf b < numberOf a = cases (ltb (numberOf b) (numberOf a)) (λ v. ltb-true (numberOf b) (numberOf a) v)
-      (λ v. let k = ltb-false (numberOf b) (numberOf a) v in let e : numberOf a ≡ numberOf b = omega arith in absurd (n e)) in
+    (λ v. let k = ltb-false (numberOf b) (numberOf a) v in let e : numberOf a ≡ numberOf b = omega arith in absurd (n e)) in
     larger h (sym (order-larger a b h))))
 
 -- ---- the search
@@ -83,9 +83,9 @@ unfolding betterOf
 better-old low card any =
     cases (isReady card)
     (λ r. by-order (cidOf card) (low .cid)
-      (λ h o. rw (r, any, o) (refl, omega arith))
-      (λ h o. rw (r, any, o) (refl, le-refl (numberOf (low .cid))))
-      (λ h o. rw (r, any, o) (refl, le-refl (numberOf (low .cid)))))
+    (λ h o. rw (r, any, o) (refl, omega arith))
+    (λ h o. rw (r, any, o) (refl, le-refl (numberOf (low .cid))))
+    (λ h o. rw (r, any, o) (refl, le-refl (numberOf (low .cid)))))
     (λ r. rw r (any, le-refl (numberOf (low .cid))))
 
 better-new : (low : Low) (card : Card) → isReady card ≡ true → (betterOf low card .any ≡ true) × (numberOf (betterOf low card .cid) ≤ numberOf (cidOf card))
@@ -93,9 +93,9 @@ unfolding betterOf
 better-new low card r =
     cases (low .any)
     (λ any. by-order (cidOf card) (low .cid)
-      (λ h o. rw (r, any, o) (refl, le-refl (numberOf (cidOf card))))
-      (λ h o. rw (r, any, o) (refl, omega arith))
-      (λ h o. rw (r, any, o) (refl, omega arith)))
+    (λ h o. rw (r, any, o) (refl, le-refl (numberOf (cidOf card))))
+    (λ h o. rw (r, any, o) (refl, omega arith))
+    (λ h o. rw (r, any, o) (refl, omega arith)))
     (λ any. rw (r, any) (refl, le-refl (numberOf (cidOf card))))
 
 better-from : (low : Low) (card : Card) → (betterOf low card ≡ low) ⊎ ((isReady card ≡ true) × (betterOf low card .cid ≡ cidOf card))
@@ -103,8 +103,8 @@ unfolding betterOf
 better-from low card =
     cases (isReady card)
     (λ r. cases (low .any)
-      (λ any. by-order (cidOf card) (low .cid) (λ h o. inr (r, rw (r, any, o))) (λ h o. inl (rw (r, any, o))) (λ h o. inl (rw (r, any, o))))
-      (λ any. inr (r, rw (r, any))))
+    (λ any. by-order (cidOf card) (low .cid) (λ h o. inr (r, rw (r, any, o))) (λ h o. inl (rw (r, any, o))) (λ h o. inl (rw (r, any, o))))
+    (λ any. inr (r, rw (r, any))))
     (λ r. inl (rw r))
 
 -- the answers of the step, as code tells them apart
@@ -188,13 +188,13 @@ module _ (cards : List Card) (held : (card : Card) → List·Memᴰ card cards �
       let low : Low = lowFrom noLow cards in
       let least = low-least noLow cards card m r in
       let own : Owned low cards =
-        ⊎-elim (λ e. absurd (false≢true (sym (none e) ∙ least .0))) (λ w. w) (low-from noLow cards) in
+      ⊎-elim (λ e. absurd (false≢true (sym (none e) ∙ least .0))) (λ w. w) (low-from noLow cards) in
       let small = line-is-smallest cidBits (map cidSender cards) cid-bitwise (cidSender (own .0)) (Memᴰ·map cidSender (own .1)) (own .2) in
       let from = Memᴰ·of-map cidSender cards (small .0 .1) in
       let up = small .1 (cidSender (own .0)) (Memᴰ·map cidSender (own .1)) (own .2) in
       let down = low-least noLow cards (from .0) (from .1) (ap (λ (s : Sender). s .on) (from .2) ∙ small .0 .2) .1 in
       let shown : spelt (contested cidBits (map cidSender cards)) ≡ spelt (bits (cidOf (from .0))) =
-        ap spelt (sym (ap (λ (s : Sender). s .bits) (from .2) ∙ small .0 .3)) in
+      ap spelt (sym (ap (λ (s : Sender). s .bits) (from .2) ∙ small .0 .3)) in
       let found : spelt (bits (low .cid)) ≡ spelt (bits (cidOf (own .0))) = ap (λ (l : List ℕ). spelt (bits l)) (own .3) in
       omega arith
     where
@@ -207,7 +207,7 @@ module _ (cards : List Card) (held : (card : Card) → List·Memᴰ card cards �
       let low : Low = lowFrom noLow cards in
       let w = winners cidBits (map cidSender cards) cid-bitwise (cidSender card) (Memᴰ·map cidSender m) in
       let lost : (winsLine cards card ≡ true → ⊥) → winsLine cards card ≡ false =
-        λ no. cases (winsLine cards card) (λ t. absurd (no t)) (λ t. t) in
+      λ no. cases (winsLine cards card) (λ t. absurd (no t)) (λ t. t) in
       cases (isReady card)
       (λ r.
       let shown = shown-low card m r in

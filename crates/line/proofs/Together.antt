@@ -193,7 +193,7 @@ pub together-is-and : (n m : ℕ) (frames : List (List ℕ)) → n ≤ m → Bel
 together-is-and n m frames h small =
     let all : List ℕ = andedAll (replicate n 255) frames in
     let part : take n (andedAll (replicate m 255) frames) ≡ all =
-      take-andedAll n (replicate m 255) frames ∙ ap (λ (l : List ℕ). andedAll l frames) (take-replicate n m 255 h) in
+    take-andedAll n (replicate m 255) frames ∙ ap (λ (l : List ℕ). andedAll l frames) (take-replicate n m 255 h) in
     let long : length all ≡ n = length-andedAll (replicate n 255) frames ∙ length-replicate n 255 in
     let below : Below 256 all = subst (Below 256) part (below-take 256 n (andedAll (replicate m 255) frames) small) in
     ap (octets n) (together-mins (8 * n) frames ∙ ap (λ (l : List ℕ). minsAll l frames) (sym (bits-ones n)) ∙ sym (bits-andedAll (replicate n 255) frames))
