@@ -1,0 +1,51 @@
+-- `bench::calls::call_into` meets its contract: the output is made blank, the call carried out and its line told.
+-- Assumes nothing.
+use mathlib.Core.Path.{_∙_}
+use native.Mathlib.Omega.{arith}
+use borrow.Author.Needs.{needs}
+use denote.Ref.{now}
+use lib.ListN.{length}
+use Rattle.bench.proofs.Lending.{told-left, told-text}
+use Rattle.bench.proofs.Writing.{wrote-as}
+use Rattle.bench.proofs.calls.call_into.Statement.{statement}
+use Rattle.bench.proofs.calls.call_into.Tie as tie
+
+tell-requires : tie.Need-tell-requires
+tell-requires c κs = (c .before .before .before .before .before .before .before .before .before .before .before .before .before .before .before .before .before .before .before .before .before .pre .0, omega (arith, c .before .before .before .before .before .before .before .before .before .before .before .before .before .before .before .before .before .before .before .before .before .pre .1, c .before .before .before .before .before .before .before .before .lent-step .kept .1 .1 .1 .1 .1 .0, c .before .before .before .before .before .before .before .before .before .before .before .before .before .before .fill .kept .0))
+
+same-length-3 : tie.Need-same-length-3
+same-length-3 c = c .before .before .before .before .before .before .before .before .before .before .before .lent-step .kept .1 .1 .1 .1 .1 .0 ∙ c .before .before .before .before .before .before .before .before .before .before .before .before .before .before .before .before .before .fill .kept .0
+
+returns : tie.Need-returns
+returns c =
+    let a = c .before .before .before .before .before .before .before .before .before .before .before .before .before .before .before .before .before .before .before .before .before .before .before .before .args in
+    let d = c .before .before .before .before .before .before .before .before .before .before .before .lent-step in
+    let o = c .before .before .before .before .before .before .before .before .before .before .before .before .before .before .before .before .before .fill .last .0 in
+    let q = d .last .1 .1 .1 .1 .1 .0 in
+    let n = length (now (a .output)) in
+    let input = now (a .input) in
+    let memory = now (a .memory) in
+    let map = now (a .map) in
+    let t = c .before .before .tell .ensures in (
+      told-left (a .world) (a .call) input memory map o q n (d .result) (c .before .before .before .before .before .before .before .before .before .before .before .before .before .before .before .before .before .fill .ensures) (d .ensures .0) (d .ensures .1 .1 .1) (a .used) (c .before .before .tell .result) (t .0),
+      (
+        d .ensures .1 .0,
+        (
+          d .ensures .1 .1 .0,
+          wrote-as (told-text (a .world) (a .call) input memory map o q n (d .result) (c .before .before .before .before .before .before .before .before .before .before .before .before .before .before .before .before .before .fill .ensures) (d .ensures .0) (d .ensures .1 .1 .1)) (t .1),
+        ),
+      ),
+    )
+
+pub call-into-spec : {M : Type 1} → statement M
+call-into-spec =
+    tie.close
+    (tie.spec
+    (λ c κs. search needs)
+    (λ c κs. search needs)
+    tell-requires
+    (λ c. search needs)
+    (λ c. search needs)
+    same-length-3
+    (λ c. search needs)
+    returns)

@@ -1,0 +1,49 @@
+-- `bench::calls::lent_step` meets its contract: the first bytes of each buffer are lent.
+-- Assumes nothing.
+use borrow.Author.Needs.{needs}
+use denote.Ref.{now}
+use Rattle.bench.proofs.Lending.{stepped-answer, stepped-memory, stepped-map, stepped-output}
+use Rattle.bench.proofs.calls.lent_step.Statement.{statement}
+use Rattle.bench.proofs.calls.lent_step.Tie as tie
+
+returns : tie.Need-returns
+returns c =
+    let s = c .before .before .before .before .before .before .step in
+    let a = c .before .before .before .before .before .before .before .before .before .before .before .before .before .before .before .before .before .before .args in
+    let k = c .before .before .before .before .before .before .before .before .before .before .before .before .least .result in
+    let j = c .before .before .before .before .before .before .before .before .before .before .least2 .result in
+    let ek = c .before .before .before .before .before .before .before .before .before .before .before .before .least .ensures in
+    let ej = c .before .before .before .before .before .before .before .before .before .before .least2 .ensures in
+    let input = now (a .input) in
+    let memory = now (a .memory) in
+    let map = now (a .map) in
+    let output = now (a .output) in (
+      stepped-answer (a .world) (a .call) input memory map output k j ek ej (s .result) (s .ensures .0),
+      (
+        stepped-memory (a .world) (a .call) input memory map output k j ek ej (s .last .1 .1 .1 .0) (s .ensures .1 .0),
+        (
+          stepped-map (a .world) (a .call) input memory map output k j ek ej (s .last .1 .1 .1 .1 .0) (s .ensures .1 .1 .0),
+          stepped-output (a .world) (a .call) input memory map output k j ek ej (s .last .1 .1 .1 .1 .1 .0) (s .ensures .1 .1 .1),
+        ),
+      ),
+    )
+
+pub lent-step-spec : {M : Type 1} → statement M
+lent-step-spec =
+    tie.close
+    (tie.spec
+    (λ c. search needs)
+    (λ c κs. search needs)
+    (λ c. search needs)
+    (λ c κs. search needs)
+    (λ c. search needs)
+    (λ c. search needs)
+    (λ c. search needs)
+    (λ c. search needs)
+    (λ c. search needs)
+    (λ c. search needs)
+    (λ c κs. search needs)
+    (λ c. search needs)
+    (λ c. search needs)
+    (λ c. search needs)
+    returns)

@@ -1,0 +1,47 @@
+-- `bench::calls::sent_line` meets its contract: each return is told the writer's answer.
+-- Assumes nothing.
+use mathlib.Core.Path.{ap, _∙_}
+use borrow.Author.Needs.{needs}
+use lib.ListN.{replicate}
+use Rattle.bench.proofs.Sending.{sent-text, unsent-text}
+use Rattle.bench.proofs.Writing.{wrote-as}
+use Rattle.bench.specs.Calls.{shownText, sentText}
+use Rattle.bench.proofs.calls.sent_line.Statement.{statement}
+use Rattle.bench.proofs.calls.sent_line.Tie as tie
+
+returns : tie.Need-returns
+unfolding sentText
+returns c =
+    let d = c .before .before .before .before .before .before .before .before .before .before .write-sent in
+    let a = c .before .before .before .before .before .before .before .before .before .before .before .before .before .args in
+    wrote-as
+    (ap (shownText (a .count)) (c .before .before .before .before .part .ensures .0)
+    ∙ sent-text (a .count) (a .registers) (a .sent) (replicate 17 0) (d .last .1 .1 .0) (d .result) (d .ensures .0) (c .before .before .before .before .before .before .before .written .given .0 .0) (c .before .before .before .before .before .before .before .written .given .1) (d .ensures .1))
+    (c .before .before .shown .ensures)
+
+returns-2 : tie.Need-returns-2
+unfolding sentText
+returns-2 c =
+    let d = c .before .before .before .before .before .before .before .before .before .write-sent in
+    let a = c .before .before .before .before .before .before .before .before .before .before .before .before .args in
+    wrote-as
+    (unsent-text (a .count) (a .registers) (a .sent) (replicate 17 0) (d .last .1 .1 .0) (d .result) (d .ensures .0) (c .before .before .before .before .before .before .written2 .given .0 .0) (c .before .before .before .before .before .before .written2 .given .1))
+    (c .before .before .refused .ensures)
+
+pub sent-line-spec : {M : Type 1} → statement M
+sent-line-spec =
+    tie.close
+    (tie.spec
+    (λ c. search needs)
+    (λ c κs. search needs)
+    (λ c. search needs)
+    (λ c. search needs)
+    (λ c κs. search needs)
+    (λ c κs. search needs)
+    (λ c. search needs)
+    (λ c. search needs)
+    (λ c κs. search needs)
+    (λ c. search needs)
+    returns
+    (λ c. search needs)
+    returns-2)

@@ -1,0 +1,27 @@
+-- `bench::looks::card_line` meets its contract: four texts, one after the other.
+-- Assumes nothing.
+use borrow.Author.Needs.{needs}
+use Rattle.bench.proofs.Writing.{wrote-both}
+use Rattle.bench.specs.Looks.{cardText}
+use Rattle.bench.proofs.looks.card_line.Statement.{statement}
+use Rattle.bench.proofs.looks.card_line.Tie as tie
+
+returns : tie.Need-returns
+unfolding cardText
+returns c =
+    rw (← c .before .before .before .before .part .ensures .0)
+    (wrote-both (wrote-both (wrote-both (c .before .before .before .before .before .before .before .before .before .before .before .before .before .before .before .before .head .ensures .0) (c .before .before .before .before .before .before .before .before .before .before .before .before .link-text .ensures .0)) (c .before .before .before .before .before .before .before .before .flags-text .ensures .0)) (c .before .before .ending .ensures))
+
+pub card-line-spec : {M : Type 1} → statement M
+card-line-spec =
+    tie.close
+    (tie.spec
+    (λ c. search needs)
+    (λ c κs. search needs)
+    (λ c κs. search needs)
+    (λ c κs. search needs)
+    (λ c. search needs)
+    (λ c κs. search needs)
+    (λ c κs. search needs)
+    (λ c. search needs)
+    returns)

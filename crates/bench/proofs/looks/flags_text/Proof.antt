@@ -1,0 +1,36 @@
+-- `bench::looks::flags_text` meets its contract: one text after the other.
+-- Assumes nothing.
+use mathlib.Core.Path.{ap}
+use Prim.Native.Nat.{ℕ}
+use native.Mathlib.Omega.{arith}
+use borrow.Author.Needs.{needs}
+use Rattle.bench.proofs.Writing.{wrote-as, wrote-both}
+use Rattle.bench.specs.Lines.{numberText, hexText}
+use Rattle.bench.specs.Looks.{flagsText, fourBytes}
+use Rattle.bench.proofs.looks.flags_text.Statement.{statement}
+use Rattle.bench.proofs.looks.flags_text.Tie as tie
+
+returns : tie.Need-returns
+unfolding flagsText
+returns c =
+    let n = c .before .before .before .before .before .before .before .before .number .ensures in
+    let h = c .before .before .hexed .ensures in (
+      wrote-both (wrote-as (ap numberText (c .before .before .before .before .before .before .before .before .before .before .flag .ensures)) (n .0)) (wrote-as (ap (λ (b : ℕ). hexText (fourBytes b)) (c .before .before .before .before .before .pending .ensures)) (h .0)),
+      omega (arith, n .1, h .1),
+    )
+
+pub flags-text-spec : {M : Type 1} → statement M
+flags-text-spec =
+    tie.close
+    (tie.spec
+    (λ c κs. search needs)
+    (λ c κs. search needs)
+    (λ c κs. search needs)
+    (λ c. search needs)
+    (λ c. search needs)
+    (λ c. search needs)
+    (λ c. search needs)
+    (λ c. search needs)
+    (λ c κs. search needs)
+    (λ c. search needs)
+    returns)

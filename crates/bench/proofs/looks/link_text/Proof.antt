@@ -1,0 +1,39 @@
+-- `bench::looks::link_text` meets its contract: three texts, one after the other.
+-- Assumes nothing.
+use mathlib.Core.Path.{ap, _∙_}
+use native.Mathlib.Omega.{arith}
+use borrow.Author.Needs.{needs}
+use Rattle.bench.proofs.Writing.{wrote-as, wrote-both}
+use Rattle.bench.specs.Lines.{numberText}
+use Rattle.bench.specs.Looks.{linkText}
+use Rattle.states.specs.States.{numberOf}
+use Rattle.bench.proofs.looks.link_text.Statement.{statement}
+use Rattle.bench.proofs.looks.link_text.Tie as tie
+
+returns : tie.Need-returns
+unfolding linkText
+returns c =
+    let e = c .before .before .before .before .before .before .before .before .before .before .before .before .before .before .before .before .before .before .number .ensures ∙ ap numberOf (c .before .before .before .before .before .before .before .before .before .before .before .before .before .before .before .before .before .before .before .column-of .ensures) in
+    let n = c .before .before .before .before .before .before .before .before .before .before .before .before .before .before .before .before .number2 .ensures in
+    let a = c .before .before .before .before .before .before .before .before .before .hexed .ensures in
+    let l = c .before .before .hexed2 .ensures in
+    (wrote-both (wrote-both (wrote-as (ap numberText e) (n .0)) (a .0)) (l .0), omega (arith, n .1, a .1, l .1))
+
+pub link-text-spec : {M : Type 1} → statement M
+link-text-spec =
+    tie.close
+    (tie.spec
+    (λ c κs. search needs)
+    (λ c κs. search needs)
+    (λ c. search needs)
+    (λ c κs. search needs)
+    (λ c. search needs)
+    (λ c. search needs)
+    (λ c. search needs)
+    (λ c κs. search needs)
+    (λ c. search needs)
+    (λ c. search needs)
+    (λ c. search needs)
+    (λ c κs. search needs)
+    (λ c. search needs)
+    returns)

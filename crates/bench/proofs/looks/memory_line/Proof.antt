@@ -1,0 +1,32 @@
+-- `bench::looks::memory_line` meets its contract: the bytes are a part of the card's own.
+-- Assumes nothing.
+use mathlib.Core.Path.{ap, _∙_, _≡_}
+use mathlib.Core.List.{List}
+use Prim.Native.Nat.{ℕ}
+use borrow.Author.Needs.{needs}
+use denote.Ref.{now}
+use lib.ListN.{take, drop}
+use Rattle.bench.specs.Looks.{memoryText}
+use Rattle.bench.proofs.looks.memory_line.Statement.{statement}
+use Rattle.bench.proofs.looks.memory_line.Tie as tie
+
+returns : tie.Need-returns
+unfolding memoryText
+returns c =
+    let a = c .before .before .before .before .before .before .before .before .before .before .args in
+    let e : now (c .before .before .before .before .before .part2 .result) ≡ take (a .n) (drop (a .from) (take (a .world .own .memory) (now (a .memory)))) =
+    c .before .before .before .before .before .part2 .ensures .0 ∙ ap (λ (l : List ℕ). take (a .n) (drop (a .from) l)) (c .before .before .before .before .before .before .part .ensures .0)
+    in
+    rw e at (c .before .before .say .ensures)
+
+pub memory-line-spec : {M : Type 1} → statement M
+memory-line-spec =
+    tie.close
+    (tie.spec
+    (λ c. search needs)
+    (λ c κs. search needs)
+    (λ c κs. search needs)
+    (λ c. search needs)
+    (λ c κs. search needs)
+    (λ c. search needs)
+    returns)

@@ -1,0 +1,24 @@
+-- `bench::make::fill_front` meets its contract: the part that is filled, and the rest.
+-- Assumes nothing.
+use borrow.Author.Needs.{needs}
+use denote.Ref.{now}
+use Rattle.bench.proofs.Lending.{filled-is}
+use Rattle.bench.proofs.make.fill_front.Statement.{statement}
+use Rattle.bench.proofs.make.fill_front.Tie as tie
+
+returns : tie.Need-returns
+returns c =
+    let a = c .before .before .before .before .before .before .args in
+    filled-is (now (a .memory)) (c .before .before .fill .last .0) (a .n) (c .before .before .before .before .least .result) (a .value) (c .before .before .before .before .least .ensures) (c .before .before .fill .ensures)
+
+pub fill-front-spec : {M : Type 1} → statement M
+fill-front-spec =
+    tie.close
+    (tie.spec
+    (λ c κs. search needs)
+    (λ c. search needs)
+    (λ c. search needs)
+    (λ c. search needs)
+    (λ c κs. search needs)
+    (λ c. search needs)
+    returns)

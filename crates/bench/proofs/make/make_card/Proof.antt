@@ -1,0 +1,46 @@
+-- `bench::make::make_card` meets its contract: the memory and the map are filled, and the card is lent them.
+-- Assumes nothing.
+use mathlib.Core.Path.{ap, ap₂, _∙_}
+use mathlib.Core.List.{List}
+use Prim.Native.Nat.{ℕ}
+use borrow.Author.Needs.{needs}
+use denote.Ref.{now}
+use lib.ListN.{length, take}
+use Rattle.bench.proofs.Lending.{filled-length}
+use Rattle.bench.specs.Makes.{madeFrom, cardMade}
+use Rattle.bench.specs.Writing.{fronted}
+use Rattle.bench.proofs.make.make_card.Statement.{statement}
+use Rattle.bench.proofs.make.make_card.Tie as tie
+
+same-length : tie.Need-same-length
+same-length c = c .before .before .before .before .before .before .before .before .before .before .before .before .before .before .before .fill-front .kept .1 .1 .0
+
+returns : tie.Need-returns
+unfolding cardMade
+returns c =
+    let a = c .before .before .before .before .before .before .before .before .before .before .before .before .before .before .before .before .before .before .before .before .before .args in
+    let m = a .making in
+    let s = now (a .script) in
+    let memory = now (a .memory) in
+    let f = c .before .before .before .before .before .before .before .before .before .before .before .before .before .before .before .fill-front .ensures in
+    let g = c .before .before .before .before .before .before .before .before .before .front .ensures ∙ ap (λ (l : List ℕ). fronted l (now (a .map))) (c .before .before .before .before .before .before .before .before .before .before .before .part .ensures .0) in
+    let e = ap length (c .before .before .before .before .part2 .ensures .0 ∙ ap (take (m .memory)) f) ∙ filled-length memory (m .memory) (m .fill) in
+    (c .made-of .ensures ∙ ap₂ (λ (k : ℕ) (l : List ℕ). madeFrom m s k l) e (c .before .part3 .ensures .0 ∙ ap (take (m .map)) g), (f, g))
+
+pub make-card-spec : {M : Type 1} → statement M
+make-card-spec =
+    tie.close
+    (tie.spec
+    (λ c. search needs)
+    (λ c κs. search needs)
+    (λ c. search needs)
+    (λ c κs. search needs)
+    (λ c κs. search needs)
+    (λ c. search needs)
+    (λ c κs. search needs)
+    (λ c. search needs)
+    (λ c κs. search needs)
+    (λ c κs. search needs)
+    same-length
+    (λ c. search needs)
+    returns)

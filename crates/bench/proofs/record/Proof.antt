@@ -1,0 +1,35 @@
+-- `bench::record` meets its contract: an output without room is left alone, and else what is read is carried out.
+-- Assumes nothing.
+use borrow.Author.Needs.{needs}
+use borrow.Author.Tests.{le-leb, lt-leb}
+use Rattle.bench.proofs.Writing.{wrote-at}
+use Rattle.bench.specs.Record.{saidOf, memoryAfter, mapAfter, textOf}
+use Rattle.bench.proofs.record.Statement.{statement}
+use Rattle.bench.proofs.record.Tie as tie
+
+returns : tie.Need-returns
+unfolding saidOf memoryAfter mapAfter textOf
+returns c =
+    let t = lt-leb _ _ (c .before .if1 .taken) in
+    (simp (t, c .ends .ensures), (simp t, (simp t, simp (t, c .ends .ensures))))
+
+returns-2 : tie.Need-returns-2
+unfolding saidOf memoryAfter mapAfter textOf
+returns-2 c =
+    let t = le-leb _ _ (c .before .before .before .before .before .before .before .before .before .before .before .if1 .left) in
+    let n = c .before .before .before .before .before .before .before .before .before .before .read .ensures in
+    let d = c .before .before .before .before .before .before .carry .ensures in
+    (rw (t, ← n) (d .0), (rw (t, ← n) (d .1 .0), (rw (t, ← n) (d .1 .1 .0), rw (t, ← n) (wrote-at (d .1 .1 .1)))))
+
+pub record-spec : {M : Type 1} → statement M
+record-spec =
+    tie.close
+    (tie.spec
+    (λ c κs. search needs)
+    returns
+    (λ c κs. search needs)
+    (λ c κs. search needs)
+    (λ c. search needs)
+    (λ c. search needs)
+    (λ c. search needs)
+    returns-2)

@@ -1,0 +1,26 @@
+-- `bench::wires::block_into` meets its contract: the whole output is shown, written or not.
+-- Assumes nothing.
+use borrow.Author.Needs.{needs}
+use denote.Ref.{now}
+use Rattle.bench.proofs.Sending.{block-text}
+use Rattle.bench.proofs.Writing.{wrote-as}
+use Rattle.bench.proofs.wires.block_into.Statement.{statement}
+use Rattle.bench.proofs.wires.block_into.Tie as tie
+
+returns : tie.Need-returns
+returns c =
+    let a = c .before .before .before .before .before .before .before .before .before .before .before .before .before .before .before .before .before .args in
+    let d = c .before .before .before .before .before .before .before .before .write-block in
+    wrote-as (block-text (a .count) (now (a .payload)) _ _ _ (d .result) (c .before .before .before .before .before .before .before .before .before .before .before .before .fill .ensures) (d .ensures .0) (d .ensures .1)) (c .before .before .written-line .ensures)
+
+pub block-into-spec : {M : Type 1} → statement M
+block-into-spec =
+    tie.close
+    (tie.spec
+    (λ c κs. search needs)
+    (λ c κs. search needs)
+    (λ c. search needs)
+    (λ c κs. search needs)
+    (λ c. search needs)
+    (λ c. search needs)
+    returns)

@@ -1,0 +1,31 @@
+-- `bench::wires::write_block` meets its contract: so many bytes are lent.
+-- Assumes nothing.
+use mathlib.Core.Path.{refl, ap}
+use Prim.Native.Nat.{ℕ}
+use native.Mathlib.Omega.{arith}
+use borrow.Author.Needs.{needs}
+use denote.Ref.{now}
+use Rattle.bench.proofs.Lending.{room-length}
+use Rattle.bench.proofs.Writing.{wrote-as}
+use Rattle.bench.specs.Calls.{blank}
+use Rattle.bench.specs.Wires.{writeBlockText}
+use Rattle.bench.proofs.wires.write_block.Statement.{statement}
+use Rattle.bench.proofs.wires.write_block.Tie as tie
+
+returns : tie.Need-returns
+returns c =
+    let a = c .before .before .before .before .before .before .before .before .before .args in
+    let n = room-length (c .before .before .before .before .before .before .space .result) (a .room) (a .room) (c .before .before .before .before .before .before .space .ensures) refl (omega arith) in
+    wrote-as (ap (λ (k : ℕ). writeBlockText (a .count) (now (a .payload)) (blank k)) n) (c .before .before .before .block-into .ensures)
+
+pub write-block-spec : {M : Type 1} → statement M
+write-block-spec =
+    tie.close
+    (tie.spec
+    (λ c κs. search needs)
+    (λ c. search needs)
+    (λ c. search needs)
+    (λ c. search needs)
+    (λ c κs. search needs)
+    (λ c. search needs)
+    returns)

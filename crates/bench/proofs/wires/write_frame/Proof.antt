@@ -1,0 +1,30 @@
+-- `bench::wires::write_frame` meets its contract: so many bytes are lent.
+-- Assumes nothing.
+use mathlib.Core.Path.{refl, ap}
+use Prim.Native.Nat.{ℕ}
+use native.Mathlib.Omega.{arith}
+use borrow.Author.Needs.{needs}
+use Rattle.bench.proofs.Lending.{room-length}
+use Rattle.bench.proofs.Writing.{wrote-as}
+use Rattle.bench.specs.Calls.{blank}
+use Rattle.bench.specs.Wires.{writeFrameText}
+use Rattle.bench.proofs.wires.write_frame.Statement.{statement}
+use Rattle.bench.proofs.wires.write_frame.Tie as tie
+
+returns : tie.Need-returns
+returns c =
+    let a = c .before .before .before .before .before .before .before .before .args in
+    let n = room-length (c .before .before .before .before .before .before .space .result) (a .room) (a .room) (c .before .before .before .before .before .before .space .ensures) refl (omega arith) in
+    wrote-as (ap (λ (k : ℕ). writeFrameText (a .count) (a .index) (a .argument) (blank k)) n) (c .before .before .before .frame-into .ensures)
+
+pub write-frame-spec : {M : Type 1} → statement M
+write-frame-spec =
+    tie.close
+    (tie.spec
+    (λ c κs. search needs)
+    (λ c. search needs)
+    (λ c. search needs)
+    (λ c. search needs)
+    (λ c κs. search needs)
+    (λ c. search needs)
+    returns)

@@ -1,0 +1,11 @@
+pub mod Calls
+pub mod Lines
+pub mod Looks
+pub mod Makes
+pub mod Reading
+pub mod Record
+pub mod Transcript
+pub mod Wires
+pub mod Words
+pub mod Worlds
+pub mod Writing

@@ -1,0 +1,59 @@
+-- | 01 | make a card, lent a memory of M bytes that are all F, and a map of the m bytes | `made` or `refused R` |
+-- Assumes nothing.
+use mathlib.Core.Bool.{true}
+use mathlib.Core.List.{List, _++_}
+use Prim.Native.Nat.{ℕ, _+_}
+use lib.ListN.{length, take, drop, replicate}
+use Rattle.bench.specs.Lines.{plainLine, refusedMakeLine}
+use Rattle.bench.specs.Reading.{four}
+use Rattle.bench.specs.Words.{madeWord}
+use Rattle.bench.specs.Worlds.{goneOn, ended}
+use Rattle.bench.specs.Writing.{fronted}
+use Rattle.bench.specs.declared.Making.{Making}
+use Rattle.bench.specs.declared.Said.{Said}
+use Rattle.bench.specs.declared.Sizes.{Sizes}
+use Rattle.bench.specs.declared.World.{World}
+use Rattle.record.specs.Making.{madeOf}
+use Rattle.record.specs.declared.Card.{Card}
+use Rattle.record.specs.declared.Made.{Made}
+use Rattle.record.specs.declared.Making.{Making as Outcome}
+use Rattle.record.specs.declared.Making.the-variants.{Done, Refused}
+
+-- the memory's first M bytes, as far as it has them, are F, and what stands behind them stays
+unfoldable pub filled : ℕ → ℕ → List ℕ → List ℕ
+filled n value memory = replicate (length (take n memory)) value ++ drop n memory
+
+abbrev pub memoryMade : Making → List ℕ → List ℕ
+memoryMade m memory = filled (m .memory) (m .fill) memory
+
+-- the m map bytes, over the front of the map
+abbrev pub mapMade : Making → List ℕ → List ℕ → List ℕ
+mapMade m s map = fronted (take (m .map) (drop 6 s)) map
+
+-- the 16 bytes of a register from a place on
+abbrev pub registerAt : List ℕ → ℕ → List ℕ
+registerAt s at = fronted (take 16 (drop at s)) (replicate 16 0)
+
+-- the card of the record's bytes, lent a memory of so many bytes and a map
+unfoldable pub madeFrom : Making → List ℕ → ℕ → List ℕ → Made
+madeFrom m s memory map =
+    madeOf (registerAt s (m .map + 6)) (registerAt s (m .map + 22)) (four s (m .map + 38)) (take (m .password) (drop (m .map + 43) s)) memory map
+
+-- "lent a memory of M bytes .., and a map of the m bytes"
+unfoldable pub cardMade : Making → List ℕ → List ℕ → List ℕ → Made
+cardMade m s memory map = madeFrom m s (length (take (m .memory) memory)) (take (m .map) (mapMade m s map))
+
+abbrev pub sizesMade : Making → Sizes
+sizesMade m = record { memory = m .memory; map = m .map }
+
+-- the line: `made` or `refused R`
+abbrev pub makeText : Outcome → List ℕ
+makeText Done = plainLine madeWord
+makeText (Refused refusal) = refusedMakeLine refusal
+
+-- "A refused make prints `refused R` and stops"
+abbrev pub makeSaid : World → Making → Card → Outcome → Said
+makeSaid w m card Done =
+    goneOn (record { card = card; made = true; own = sizesMade m; lent = sizesMade m; count = 0 }) (m .map + 43 + m .password)
+    (length (makeText Done))
+makeSaid w m card (Refused refusal) = ended w (length (makeText (Refused refusal)))

@@ -1,0 +1,81 @@
+-- One record of a script: the line, the buffers and what is kept afterwards.
+-- Assumes nothing.
+use mathlib.Core.List.{List, []}
+use Prim.Native.Nat.{ℕ}
+use lib.Dec.{leb}
+use lib.ListN.{length}
+use Rattle.base.specs.Choice.{unless}
+use Rattle.bench.specs.Calls.{memoryLent, mapLent, callText, callSaid, calledBy, inputOf, roomOf, usedBy}
+use Rattle.bench.specs.Lines.{plainLine}
+use Rattle.bench.specs.Looks.{lookText, mapLooked, worldLooked, usedLooked}
+use Rattle.bench.specs.Makes.{memoryMade, mapMade, cardMade, makeText, makeSaid}
+use Rattle.bench.specs.Reading.{askedOf}
+use Rattle.bench.specs.Wires.{wireText, usedWiring}
+use Rattle.bench.specs.Words.{noCardWord, badKindWord, cutWord, tooBigWord}
+use Rattle.bench.specs.Worlds.{counted, goneOn, ended}
+use Rattle.bench.specs.declared.Asked.{Asked}
+use Rattle.bench.specs.declared.Asked.the-variants as asked
+use Rattle.bench.specs.declared.Said.{Said}
+use Rattle.bench.specs.declared.Stop.{Stop}
+use Rattle.bench.specs.declared.Stop.the-variants.{Ended, NoCard, BadKind, Cut, TooBig}
+use Rattle.bench.specs.declared.World.{World}
+
+-- why a script stops: "An empty script prints nothing"
+abbrev pub stopText : Stop → List ℕ
+stopText Ended = []
+stopText NoCard = plainLine noCardWord
+stopText BadKind = plainLine badKindWord
+stopText Cut = plainLine cutWord
+stopText TooBig = plainLine tooBigWord
+
+-- the line of a record that asks for this
+unfoldable pub askedText : World → Asked → List ℕ → List ℕ → List ℕ → List ℕ
+askedText w (asked.Stop stop) s memory map = stopText stop
+askedText w (asked.Make making) s memory map = makeText (cardMade making s memory map .making)
+askedText w (asked.Call calling) s memory map =
+    callText (counted w) (calledBy calling) (inputOf calling s) memory map (roomOf calling)
+askedText w (asked.Look looking) s memory map = lookText (counted w) looking memory map
+askedText w (asked.Wire wiring) s memory map = wireText (counted w .count) wiring s
+
+-- the buffers afterwards
+unfoldable pub askedMemory : World → Asked → List ℕ → List ℕ → List ℕ → List ℕ
+askedMemory w (asked.Stop stop) s memory map = memory
+askedMemory w (asked.Make making) s memory map = memoryMade making memory
+askedMemory w (asked.Call calling) s memory map = memoryLent (counted w) (calledBy calling) (inputOf calling s) memory map
+askedMemory w (asked.Look looking) s memory map = memory
+askedMemory w (asked.Wire wiring) s memory map = memory
+
+unfoldable pub askedMap : World → Asked → List ℕ → List ℕ → List ℕ → List ℕ
+askedMap w (asked.Stop stop) s memory map = map
+askedMap w (asked.Make making) s memory map = mapMade making s map
+askedMap w (asked.Call calling) s memory map = mapLent (counted w) (calledBy calling) (inputOf calling s) memory map
+askedMap w (asked.Look looking) s memory map = mapLooked (counted w) looking map
+askedMap w (asked.Wire wiring) s memory map = map
+
+-- what is kept, how much of the script was used and of the output written, and whether the script stops
+unfoldable pub askedSaid : World → Asked → List ℕ → List ℕ → List ℕ → Said
+askedSaid w (asked.Stop stop) s memory map = ended w (length (stopText stop))
+askedSaid w (asked.Make making) s memory map =
+    makeSaid w making (cardMade making s memory map .card) (cardMade making s memory map .making)
+askedSaid w (asked.Call calling) s memory map =
+    callSaid (counted w) (calledBy calling) (inputOf calling s) (usedBy calling) memory map (roomOf calling)
+askedSaid w (asked.Look looking) s memory map =
+    goneOn (worldLooked (counted w) looking) (usedLooked looking) (length (lookText (counted w) looking memory map))
+askedSaid w (asked.Wire wiring) s memory map = goneOn (counted w) (usedWiring wiring) (length (wireText (counted w .count) wiring s))
+
+-- room for the longest line: an output without it is left alone, and the script stops
+abbrev pub roomy : ℕ
+roomy = 131136
+
+-- the record at the front of a script, with two buffers and an output of so many bytes
+unfoldable pub textOf : World → List ℕ → List ℕ → List ℕ → ℕ → List ℕ
+textOf w s memory map room = unless (leb roomy room) [] (askedText w (askedOf (w .made) s) s memory map)
+
+unfoldable pub memoryAfter : World → List ℕ → List ℕ → List ℕ → ℕ → List ℕ
+memoryAfter w s memory map room = unless (leb roomy room) memory (askedMemory w (askedOf (w .made) s) s memory map)
+
+unfoldable pub mapAfter : World → List ℕ → List ℕ → List ℕ → ℕ → List ℕ
+mapAfter w s memory map room = unless (leb roomy room) map (askedMap w (askedOf (w .made) s) s memory map)
+
+unfoldable pub saidOf : World → List ℕ → List ℕ → List ℕ → ℕ → Said
+saidOf w s memory map room = unless (leb roomy room) (ended w 0) (askedSaid w (askedOf (w .made) s) s memory map)

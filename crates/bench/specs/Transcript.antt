@@ -1,0 +1,27 @@
+-- A whole script: the lines of its records, one after the other, until one stops.
+-- Assumes nothing.
+use mathlib.Core.Bool.{Bool, true, false}
+use mathlib.Core.List.{List, [], _++_}
+use Prim.Native.Nat.{ℕ, zero, suc}
+use lib.ListN.{length, drop, replicate}
+use Rattle.bench.specs.Record.{roomy, textOf, memoryAfter, mapAfter, saidOf}
+use Rattle.bench.specs.Worlds.{freshWorld}
+use Rattle.bench.specs.declared.World.{World}
+
+-- the rest of a transcript, unless the script stops
+abbrev pub goingOn : Bool → List ℕ → List ℕ
+goingOn true rest = []
+goingOn false rest = rest
+
+-- at most n records of a script
+unfoldable pub records : ℕ → World → List ℕ → List ℕ → List ℕ → List ℕ
+records zero w s memory map = []
+records (suc n) w s memory map =
+    textOf w s memory map roomy
+    ++ goingOn (saidOf w s memory map roomy .stops)
+    (records n (saidOf w s memory map roomy .world) (drop (saidOf w s memory map roomy .used) s) (memoryAfter w s memory map roomy)
+    (mapAfter w s memory map roomy))
+
+-- the buffers that hold the largest lent memory and map, and the end of the script: each record uses a byte or more
+unfoldable pub transcript : List ℕ → List ℕ
+transcript s = records (suc (length s)) freshWorld s (replicate 528384 0) (replicate 256 0)

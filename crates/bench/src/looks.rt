@@ -1,0 +1,150 @@
+// Kinds 07 to 0A: what is shown and set with no call.
+//
+// Offers: `looked`.
+use crate::Looking;
+use crate::Said;
+use crate::World;
+use crate::read::part;
+use crate::text::ending;
+use crate::text::head;
+use crate::text::hexed;
+use crate::text::number;
+use crate::text::say;
+use crate::worlds::goes_on;
+use record::Link;
+use status::Errors;
+ghost use mathlib.Core.Path.{_≡_};
+ghost use Prim.Native.Nat.{_+_, _≤_};
+ghost use lib.ListN.{length};
+ghost use Rattle.status.specs.Status.{flag};
+ghost use Rattle.bench.specs.Looks.{linkText, flagsText, cardText, memoryText, lookText, poked, mapLooked, worldLooked, usedLooked};
+ghost use Rattle.bench.specs.Worlds.{goneOn};
+ghost use Rattle.bench.specs.Writing.{Wrote};
+
+fn link_text(link: Link, out: &mut [u8], at: usize) -> usize
+    requires { ⌜ at + 31 ≤ length (now out) ⌝ }
+    ensures text { λ r. ⌜ Wrote (now (out .entry)) (now (out .exit)) at r (linkText link) ⌝ }
+    ensures within { λ r. ⌜ r ≤ at + 31 ⌝ }
+{
+    let state = link.state;
+    let column = states::column_of(state);
+    let a = number(states::number(column) as u64, out, at);
+    let address = [(link.address / 256) as u8, (link.address % 256) as u8];
+    let b = hexed(&address, out, a);
+    let length = [(link.length / 256) as u8, (link.length % 256) as u8];
+    hexed(&length, out, b)
+}
+
+fn flag(is: bool) -> u64
+    ensures { λ r. ⌜ r ≡ flag is ⌝ }
+{
+    if is { 1 } else { 0 }
+}
+
+fn flags_text(locked: bool, errors: Errors, out: &mut [u8], at: usize) -> usize
+    requires { ⌜ at + 30 ≤ length (now out) ⌝ }
+    ensures text { λ r. ⌜ Wrote (now (out .entry)) (now (out .exit)) at r (flagsText locked errors) ⌝ }
+    ensures within { λ r. ⌜ r ≤ at + 30 ⌝ }
+{
+    let a = number(flag(locked), out, at);
+    let bits = status::pending(errors);
+    let four = [
+        (bits / 16777216) as u8,
+        (bits / 65536 % 256) as u8,
+        (bits / 256 % 256) as u8,
+        (bits % 256) as u8,
+    ];
+    hexed(&four, out, a)
+}
+
+fn card_line(world: World, map: &[u8], out: &mut [u8]) -> usize
+    requires { ⌜ 131136 ≤ length (now out) ⌝ }
+    ensures { λ r. ⌜ Wrote (now (out .entry)) (now (out .exit)) 0 r (cardText world (now (map .entry))) ⌝ }
+{
+    let a = head(world.count, b"card", out);
+    let b = link_text(world.card.link, out, a);
+    let c = flags_text(world.card.lock.locked, world.card.link.errors, out, b);
+    let entries = part(map, 0, world.own.map as usize);
+    ending(entries, out, c)
+}
+
+fn memory_line(world: World, from: u32, n: u16, memory: &[u8], out: &mut [u8]) -> usize
+    requires { ⌜ 131136 ≤ length (now out) ⌝ }
+    ensures { λ r. ⌜ Wrote (now (out .entry)) (now (out .exit)) 0 r (memoryText world from n (now (memory .entry))) ⌝ }
+{
+    let own = part(memory, 0, world.own.memory as usize);
+    let bytes = part(own, from as usize, n as usize);
+    say(world.count, b"mem", bytes, out)
+}
+
+// The line of what is looked at or set.
+fn look_line(world: World, looking: Looking, memory: &[u8], map: &[u8], out: &mut [u8]) -> usize
+    requires { ⌜ 131136 ≤ length (now out) ⌝ }
+    ensures { λ r. ⌜ Wrote (now (out .entry)) (now (out .exit)) 0 r (lookText world looking (now (memory .entry)) (now (map .entry))) ⌝ }
+{
+    match looking {
+        Looking::Card => card_line(world, map, out),
+        Looking::Memory { from, length } => memory_line(world, from, length, memory, out),
+        Looking::Lend(_) => say(world.count, b"lent", b"", out),
+        Looking::Poke { entry: _, value: _ } => say(world.count, b"poked", b"", out),
+    }
+}
+
+fn poke(world: World, entry: u8, value: u8, map: &mut [u8])
+    ensures { λ _. ⌜ now (map .exit) ≡ poked world entry value (now (map .entry)) ⌝ }
+{
+    let at = entry as usize;
+    if entry < world.own.map {
+        if at < map.len() {
+            map[at] = value;
+        }
+    }
+}
+
+// The map with an entry set, if that is asked for.
+fn set_map(world: World, looking: Looking, map: &mut [u8])
+    ensures { λ _. ⌜ now (map .exit) ≡ mapLooked world looking (now (map .entry)) ⌝ }
+{
+    match looking {
+        Looking::Card => {}
+        Looking::Memory { from: _, length: _ } => {}
+        Looking::Lend(_) => {}
+        Looking::Poke { entry, value } => poke(world, entry, value, map),
+    }
+}
+
+fn world_looked(world: World, looking: Looking) -> World
+    ensures { λ r. ⌜ r ≡ worldLooked world looking ⌝ }
+{
+    match looking {
+        Looking::Card => world,
+        Looking::Memory { from: _, length: _ } => world,
+        Looking::Lend(sizes) => World {
+            lent: sizes,
+            ..world
+        },
+        Looking::Poke { entry: _, value: _ } => world,
+    }
+}
+
+fn used_looked(looking: Looking) -> usize
+    ensures { λ r. ⌜ r ≡ usedLooked looking ⌝ }
+{
+    match looking {
+        Looking::Card => 1,
+        Looking::Memory { from: _, length: _ } => 6,
+        Looking::Lend(_) => 5,
+        Looking::Poke { entry: _, value: _ } => 3,
+    }
+}
+
+pub fn looked(world: World, looking: Looking, memory: &[u8], map: &mut [u8], out: &mut [u8]) -> Said
+    requires { ⌜ 131136 ≤ length (now out) ⌝ }
+    ensures answer { λ r. ⌜ r ≡ goneOn (worldLooked world looking) (usedLooked looking) (length (lookText world looking (now (memory .entry)) (now (map .entry)))) ⌝ }
+    ensures map { λ _. ⌜ now (map .exit) ≡ mapLooked world looking (now (map .entry)) ⌝ }
+    ensures text { λ r. ⌜ Wrote (now (out .entry)) (now (out .exit)) 0 (r .wrote) (lookText world looking (now (memory .entry)) (now (map .entry))) ⌝ }
+{
+    let wrote = look_line(world, looking, memory, map, out);
+    set_map(world, looking, map);
+    goes_on(world_looked(world, looking), used_looked(looking), wrote)
+}

@@ -1,0 +1,129 @@
+// Kind 01: a card made.
+//
+// Offers: `make`.
+use crate::Making;
+use crate::Said;
+use crate::Sizes;
+use crate::World;
+use crate::read::four;
+use crate::read::part;
+use crate::text::front;
+use crate::text::least;
+use crate::text::plain;
+use crate::text::refused_make;
+use crate::worlds::ends;
+use crate::worlds::goes_on;
+use record::Made;
+ghost use mathlib.Core.Path.{_≡_};
+ghost use Prim.Native.Nat.{_+_, _≤_, _<_};
+ghost use lib.ListN.{length, take, drop, replicate};
+ghost use Rattle.bench.specs.Makes.{filled, memoryMade, mapMade, registerAt, madeFrom, cardMade, makeText, makeSaid};
+ghost use Rattle.bench.specs.Writing.{Wrote};
+
+// Every byte made one value.
+pub fn fill(bytes: &mut [u8], value: u8)
+    ensures { λ _. ⌜ now (bytes .exit) ≡ replicate (length (now (bytes .entry))) value ⌝ }
+{
+    let mut i: usize = 0;
+    while i < bytes.len() {
+        bytes[i] = value;
+        i += 1;
+    }
+}
+
+// The first bytes of a memory, as far as it has them, made one value.
+fn fill_front(n: usize, value: u8, memory: &mut [u8])
+    ensures { λ _. ⌜ now (memory .exit) ≡ filled n value (now (memory .entry)) ⌝ }
+{
+    let k = least(n, memory.len());
+    fill(&mut memory[0..k], value);
+}
+
+// The 16 bytes of a register.
+fn register(script: &[u8], at: usize) -> [u8; 16]
+    ensures { λ r. ⌜ r ≡ registerAt (now (script .entry)) at ⌝ }
+{
+    let mut bytes = [0u8; 16];
+    let given = part(script, at, 16);
+    front(given, &mut bytes);
+    bytes
+}
+
+// The card of a record, lent so much of a memory and this map.
+fn made_of(making: Making, script: &[u8], memory: &[u8], map: &[u8]) -> Made
+    ensures { λ r. ⌜ r ≡ madeFrom making (now (script .entry)) (length (now (memory .entry))) (now (map .entry)) ⌝ }
+{
+    let at = making.map as usize;
+    let cid = register(script, at + 6);
+    let csd = register(script, at + 22);
+    let ocr = four(script, at + 38);
+    let password = part(script, at + 43, making.password as usize);
+    record::make(cid, csd, ocr, password, memory, map)
+}
+
+// The memory and the map filled, and the card made that is lent them.
+fn make_card(making: Making, script: &[u8], memory: &mut [u8], map: &mut [u8]) -> Made
+    ensures answer { λ r. ⌜ r ≡ cardMade making (now (script .entry)) (now (memory .entry)) (now (map .entry)) ⌝ }
+    ensures memory { λ _. ⌜ now (memory .exit) ≡ memoryMade making (now (memory .entry)) ⌝ }
+    ensures map { λ _. ⌜ now (map .exit) ≡ mapMade making (now (script .entry)) (now (map .entry)) ⌝ }
+{
+    fill_front(making.memory as usize, making.fill, memory);
+    let given = part(script, 6, making.map as usize);
+    front(given, map);
+    let own = part(memory, 0, making.memory as usize);
+    let entries = part(map, 0, making.map as usize);
+    made_of(making, script, own, entries)
+}
+
+pub fn make(
+    world: World,
+    making: Making,
+    script: &[u8],
+    memory: &mut [u8],
+    map: &mut [u8],
+    out: &mut [u8],
+) -> Said
+    requires { ⌜ 64 ≤ length (now out) ⌝ }
+    ensures answer { λ r. ⌜ r ≡ makeSaid world making (cardMade making (now (script .entry)) (now (memory .entry)) (now (map .entry)) .card) (cardMade making (now (script .entry)) (now (memory .entry)) (now (map .entry)) .making) ⌝ }
+    ensures memory { λ _. ⌜ now (memory .exit) ≡ memoryMade making (now (memory .entry)) ⌝ }
+    ensures map { λ _. ⌜ now (map .exit) ≡ mapMade making (now (script .entry)) (now (map .entry)) ⌝ }
+    ensures text { λ r. ⌜ Wrote (now (out .entry)) (now (out .exit)) 0 (r .wrote) (makeText (cardMade making (now (script .entry)) (now (memory .entry)) (now (map .entry)) .making)) ⌝ }
+{
+    let made = make_card(making, script, memory, map);
+    make_line(world, making, made, out)
+}
+
+// What a make leaves, and its line.
+fn make_line(world: World, making: Making, made: Made, out: &mut [u8]) -> Said
+    requires { ⌜ 64 ≤ length (now out) ⌝ }
+    ensures answer { λ r. ⌜ r ≡ makeSaid world making (made .card) (made .making) ⌝ }
+    ensures text { λ r. ⌜ Wrote (now (out .entry)) (now (out .exit)) 0 (r .wrote) (makeText (made .making)) ⌝ }
+{
+    let card = made.card;
+    let outcome = made.making;
+    match outcome {
+        record::Making::Done => {
+            let wrote = plain(b"made", out);
+            let sizes = Sizes {
+                memory: making.memory,
+                map: making.map,
+            };
+            let next = World {
+                card,
+                made: true,
+                own: sizes,
+                lent: sizes,
+                count: 0,
+            };
+            goes_on(
+                next,
+                making.map as usize + 43 + making.password as usize,
+                wrote,
+            )
+        }
+        record::Making::Refused(refusal) => {
+            let wrote = refused_make(refusal, out);
+            ends(world, wrote)
+        }
+    }
+}

@@ -1,0 +1,121 @@
+// Kinds 0B to 0D: the calls of the wire, which concern no card.
+//
+// Offers: `wired`.
+use crate::Said;
+use crate::Wiring;
+use crate::World;
+use crate::calls::space;
+use crate::make::fill;
+use crate::read::part;
+use crate::text::refused;
+use crate::text::say;
+use crate::worlds::goes_on;
+use base::Written;
+use wire::Checked;
+ghost use mathlib.Core.Path.{_≡_};
+ghost use Prim.Native.Nat.{_+_, _*_, _≤_};
+ghost use lib.ListN.{length};
+ghost use Rattle.bench.specs.Calls.{blank};
+ghost use Rattle.bench.specs.Wires.{writtenText, writeFrameText, writeBlockText, checkedText, wireText, usedWiring};
+ghost use Rattle.bench.specs.Worlds.{goneOn};
+ghost use Rattle.bench.specs.Writing.{Wrote};
+
+// What a writer answered, with the whole output that it was lent.
+fn written_line(count: u64, word: &[u8], answer: Written, output: &[u8], out: &mut [u8]) -> usize
+    requires { ⌜ (64 + length (now output) * 2 ≤ length (now out)) × (length (now word) ≤ 16) ⌝ }
+    ensures { λ r. ⌜ Wrote (now (out .entry)) (now (out .exit)) 0 r (writtenText count (now (word .entry)) answer (now (output .entry))) ⌝ }
+{
+    match answer {
+        Written::Bytes(_) => say(count, word, output, out),
+        Written::Refused(refusal) => refused(count, refusal, output, out),
+    }
+}
+
+fn frame_into(count: u64, index: u8, argument: u32, output: &mut [u8], out: &mut [u8]) -> usize
+    requires { ⌜ 64 + length (now output) * 2 ≤ length (now out) ⌝ }
+    ensures { λ r. ⌜ Wrote (now (out .entry)) (now (out .exit)) 0 r (writeFrameText count index argument (blank (length (now (output .entry))))) ⌝ }
+{
+    fill(output, 0xA5);
+    let answer = wire::write_command(index, argument, output);
+    written_line(count, b"frame", answer, output, out)
+}
+
+fn block_into(count: u64, payload: &[u8], output: &mut [u8], out: &mut [u8]) -> usize
+    requires { ⌜ 64 + length (now output) * 2 ≤ length (now out) ⌝ }
+    ensures { λ r. ⌜ Wrote (now (out .entry)) (now (out .exit)) 0 r (writeBlockText count (now (payload .entry)) (blank (length (now (output .entry))))) ⌝ }
+{
+    fill(output, 0xA5);
+    let answer = wire::write_block(payload, output);
+    written_line(count, b"data", answer, output, out)
+}
+
+fn checked_line(count: u64, checked: Checked, out: &mut [u8]) -> usize
+    requires { ⌜ 64 ≤ length (now out) ⌝ }
+    ensures { λ r. ⌜ Wrote (now (out .entry)) (now (out .exit)) 0 r (checkedText count checked) ⌝ }
+{
+    match checked {
+        Checked::Payload(_) => say(count, b"good", b"", out),
+        Checked::Refused(refusal) => refused(count, refusal, b"", out),
+    }
+}
+
+fn write_frame(count: u64, index: u8, argument: u32, room: u8, out: &mut [u8]) -> usize
+    requires { ⌜ 131136 ≤ length (now out) ⌝ }
+    ensures { λ r. ⌜ Wrote (now (out .entry)) (now (out .exit)) 0 r (writeFrameText count index argument (blank room)) ⌝ }
+{
+    let mut space = space();
+    let n = room as usize;
+    frame_into(count, index, argument, &mut space[0..n], out)
+}
+
+fn write_block(count: u64, payload: &[u8], room: u16, out: &mut [u8]) -> usize
+    requires { ⌜ 131136 ≤ length (now out) ⌝ }
+    ensures { λ r. ⌜ Wrote (now (out .entry)) (now (out .exit)) 0 r (writeBlockText count (now (payload .entry)) (blank room)) ⌝ }
+{
+    let mut space = space();
+    let n = room as usize;
+    block_into(count, payload, &mut space[0..n], out)
+}
+
+fn wire_line(count: u64, wiring: Wiring, script: &[u8], out: &mut [u8]) -> usize
+    requires { ⌜ 131136 ≤ length (now out) ⌝ }
+    ensures { λ r. ⌜ Wrote (now (out .entry)) (now (out .exit)) 0 r (wireText count wiring (now (script .entry))) ⌝ }
+{
+    match wiring {
+        Wiring::Frame {
+            index,
+            argument,
+            room,
+        } => write_frame(count, index, argument, room, out),
+        Wiring::Block { length, room } => {
+            write_block(count, part(script, 3, length as usize), room, out)
+        }
+        Wiring::Check(length) => {
+            let checked = wire::check_block(part(script, 3, length as usize));
+            checked_line(count, checked, out)
+        }
+    }
+}
+
+fn used_wiring(wiring: Wiring) -> usize
+    ensures { λ r. ⌜ r ≡ usedWiring wiring ⌝ }
+{
+    match wiring {
+        Wiring::Frame {
+            index: _,
+            argument: _,
+            room: _,
+        } => 7,
+        Wiring::Block { length, room: _ } => length as usize + 5,
+        Wiring::Check(length) => length as usize + 3,
+    }
+}
+
+pub fn wired(world: World, wiring: Wiring, script: &[u8], out: &mut [u8]) -> Said
+    requires { ⌜ 131136 ≤ length (now out) ⌝ }
+    ensures answer { λ r. ⌜ r ≡ goneOn world (usedWiring wiring) (length (wireText (world .count) wiring (now (script .entry)))) ⌝ }
+    ensures text { λ r. ⌜ Wrote (now (out .entry)) (now (out .exit)) 0 (r .wrote) (wireText (world .count) wiring (now (script .entry))) ⌝ }
+{
+    let wrote = wire_line(world.count, wiring, script, out);
+    goes_on(world, used_wiring(wiring), wrote)
+}

@@ -1,0 +1,44 @@
+// What is kept from record to record.
+//
+// Offers: `counted`, `goes_on`, `ends`.
+use crate::Said;
+use crate::World;
+ghost use mathlib.Core.Path.{_≡_};
+ghost use Rattle.bench.specs.Worlds.{counted, goneOn, ended};
+
+// With the number of the next record.
+pub fn counted(world: World) -> World
+    ensures { λ r. ⌜ r ≡ counted world ⌝ }
+{
+    if world.count < 18446744073709551615 {
+        return World {
+            count: world.count + 1,
+            ..world
+        };
+    }
+    world
+}
+
+// A record that is carried out.
+pub fn goes_on(world: World, used: usize, wrote: usize) -> Said
+    ensures { λ r. ⌜ r ≡ goneOn world used wrote ⌝ }
+{
+    Said {
+        world,
+        used,
+        wrote,
+        stops: false,
+    }
+}
+
+// A record at which the script stops.
+pub fn ends(world: World, wrote: usize) -> Said
+    ensures { λ r. ⌜ r ≡ ended world wrote ⌝ }
+{
+    Said {
+        world,
+        used: 0,
+        wrote,
+        stops: true,
+    }
+}

@@ -1,0 +1,64 @@
+// A script played: each record carried out by `bench`, and its line written to standard output. No
+// contract can say what is written; all that is said of a line is said in `bench`.
+//
+// Offers: `play`.
+use bench::Said;
+use bench::World;
+use libc::STDOUT_FILENO;
+ghost use Prim.Native.Nat.{_≤_};
+ghost use lib.ListN.{length};
+
+// A script, from buffers of zeros: room for the largest memory and map that a record lends, and for
+// the longest line.
+pub fn play(script: &[u8]) {
+    let mut memory = [0u8; 528384];
+    let mut map = [0u8; 256];
+    let mut out = [0u8; 131136];
+    run(script, &mut memory, &mut map, &mut out);
+}
+
+// Record by record. Each uses a byte or more, so that there are no more than bytes.
+fn run(script: &[u8], memory: &mut [u8], map: &mut [u8], out: &mut [u8]) {
+    let mut world = bench::fresh();
+    let mut at: usize = 0;
+    let mut left = script.len();
+    while 0 < left {
+        let said = turn(world, script, at, memory, map, out);
+        if said.stops {
+            return;
+        }
+        at = next(at, said.used, script.len());
+        world = said.world;
+        left -= 1;
+    }
+}
+
+// The place behind a record, within the script.
+fn next(at: usize, used: usize, length: usize) -> usize
+    requires { ⌜ at ≤ length ⌝ }
+    ensures { λ r. ⌜ r ≤ length ⌝ }
+{
+    if length - at < used {
+        return length;
+    }
+    at + used
+}
+
+// One record, from a place of the script on, and its line.
+fn turn(
+    world: World,
+    script: &[u8],
+    at: usize,
+    memory: &mut [u8],
+    map: &mut [u8],
+    out: &mut [u8],
+) -> Said
+    requires { ⌜ at ≤ length (now script) ⌝ }
+{
+    let said = bench::record(world, &script[at..], memory, map, out);
+    let n = said.wrote;
+    if n <= out.len() {
+        io::write_all(STDOUT_FILENO, &out[0..n]);
+    }
+    said
+}
