@@ -21,7 +21,7 @@ use Rattle.bus.specs.declared.Bus.{Bus}
 use Rattle.bus.specs.declared.Framed.{Framed as Answered}
 use Rattle.bus.specs.declared.Taken.{Taken}
 use Rattle.made.proofs.Stays.{command-made, damage-made}
-use Rattle.made.proofs.Walk.{never, judged}
+use Rattle.base.proofs.Cases.{never, guarded}
 use Rattle.made.specs.Made.{Made}
 use Rattle.moves.specs.Indices.{among}
 use Rattle.record.specs.Making.{refusedMake}
@@ -68,7 +68,7 @@ module _ (bus : Bus) (made : MadeBus bus) where
   commanded-made : (index argument : ℕ) → Keeps (commandFor bus index argument)
   unfolding commandFor cardAfter commandAt
   commanded-made index argument =
-      judged Keeps (among index busIndices) (λ e. made)
+      guarded Keeps (among index busIndices) (λ e. made)
       (λ e.
       each-made (cardAfter (cardsOf bus) index argument)
       (λ card m. command-made card (winsLine (cardsOf bus) card) index argument m) bus made)
@@ -76,17 +76,17 @@ module _ (bus : Bus) (made : MadeBus bus) where
   framed-made : (framing : Framing) → Keeps (framedOn bus framing)
   framed-made (Unframed refusal) = made
   framed-made (Framed index argument right) =
-      judged Keeps right (λ e. each-made damagedCard (λ card m. damage-made card m) bus made) (λ e. commanded-made index argument)
+      guarded Keeps right (λ e. each-made damagedCard (λ card m. damage-made card m) bus made) (λ e. commanded-made index argument)
 
   pub bus-made : (frame : List ℕ) → MadeBus (busFrame bus frame .bus)
   unfolding busFrame
-  bus-made frame = judged Keeps (leb 1 (countOf bus)) (λ e. made) (λ e. framed-made (framingOf frame))
+  bus-made frame = guarded Keeps (leb 1 (countOf bus)) (λ e. made) (λ e. framed-made (framingOf frame))
 
   -- ---- cards put in and taken out
   pub added-made : (card : Card) → Made card → MadeBus (addedTo bus card .bus)
   unfolding addedTo
   added-made card m =
-      judged (λ (added : Added). MadeBus (added .bus)) (ltb (countOf bus) most) (λ e. made)
+      guarded (λ (added : Added). MadeBus (added .bus)) (ltb (countOf bus) most) (λ e. made)
       (λ e z k.
       let room = ltb-true (countOf bus) most e in
       let n : min (suc (countOf bus)) most ≡ suc (countOf bus) = omega arith in
@@ -96,7 +96,7 @@ module _ (bus : Bus) (made : MadeBus bus) where
   pub put-made : (place : ℕ) (card : Card) → Made card → MadeBus (putInto bus place card)
   unfolding putInto
   put-made place card m =
-      judged MadeBus (ltb place (countOf bus)) (λ e. made)
+      guarded MadeBus (ltb place (countOf bus)) (λ e. made)
       (λ e z k.
       ⊎-elim (λ (q : z ≡ card). subst Made (sym q) m) (λ (j : List·Memᴰ z (cardsOf bus)). made z j)
       (set-among (countOf bus) place (bus .cards) card z k))
@@ -105,7 +105,7 @@ module _ (bus : Bus) (made : MadeBus bus) where
   pub taken-made : length (bus .cards) ≡ 30 → (place : ℕ) → takenFrom bus place .found ≡ true → Made (takenFrom bus place .card)
   unfolding takenFrom
   taken-made n place =
-      judged (λ (taken : Taken). taken .found ≡ true → Made (taken .card)) (ltb place (countOf bus)) (λ e no. never no)
+      guarded (λ (taken : Taken). taken .found ≡ true → Made (taken .card)) (ltb place (countOf bus)) (λ e no. never no)
       (λ e yes.
       let here = ltb-true place (countOf bus) e in
       let count = length-take-le (countOf bus) (bus .cards) (omega arith) in
