@@ -39,7 +39,9 @@ none-ready : (cards : List Card) → anyReady cards ≡ false → (card : Card) 
 unfolding anyReady
 none-ready [] e card m = absurd (List·Memᴰ·not-nil m)
 none-ready (x ∷ cards) e card (List·Memᴰ·head p) =
-    cases (isReady card) (λ (t : isReady card ≡ true). let u : isReady x ≡ true = ap isReady (sym p) ∙ t in absurd (false≢true (sym (rw u at e)))) (λ t. t)
+    cases (isReady card)
+    (λ (t : isReady card ≡ true). let u : isReady x ≡ true = ap isReady (sym p) ∙ t in absurd (false≢true (sym (rw u at e))))
+    (λ t. t)
 none-ready (x ∷ cards) e card (List·Memᴰ·tail m) =
     cases (isReady x)
     (λ (t : isReady x ≡ true). absurd (false≢true (sym (rw t at e))))
@@ -69,6 +71,13 @@ module _ (cards : List Card) (held : (card : Card) → List·Memᴰ card cards �
   abbrev frames : List (List ℕ)
   frames = map (frameFrom cards 2 argument) cards
 
+  -- a winner is Ready, and its CID is what the line shows
+  winner : (card : Card) → List·Memᴰ card cards → winsLine cards card ≡ true
+      → (isReady card ≡ true) × (bits (cidOf card) ≡ contested cidBits (map cidSender cards))
+  winner card m t =
+      wins-shown cidBits (map cidSender cards) (cidSender card) (Memᴰ·map cidSender m)
+      (length-bits (cidOf card) ∙ ap (λ (n : ℕ). n * 8) (held card m .0)) t
+
   frame-lost : (card : Card) → winsLine cards card ≡ false → frameFrom cards 2 argument card ≡ []
   unfolding frameFrom commandAt sentBytes
   frame-lost card t =
@@ -79,7 +88,7 @@ module _ (cards : List Card) (held : (card : Card) → List·Memᴰ card cards �
   unfolding frameFrom commandAt sentBytes r2Frame
   frame-won card m t =
       let h = held card m in
-      let s = wins-shown cidBits (map cidSender cards) (cidSender card) (Memᴰ·map cidSender m) (length-bits (cidOf card) ∙ ap (λ (n : ℕ). n * 8) (h .0)) t in
+      let s = winner card m t in
       ap (λ (w : Bool). sentBytes (card .registers) (commandOf (card .link) (metWith w card) 2 argument .sent)) t
       ∙ ap (λ (x : Sent). sentBytes (card .registers) x) (cid-won card argument (s .0))
       ∙ ap (λ (l : List ℕ). 0x3F ∷ l)
@@ -108,10 +117,9 @@ module _ (cards : List Card) (held : (card : Card) → List·Memᴰ card cards �
   -- where no card is Ready, none wins
   nobody-wins : anyReady cards ≡ false → (card : Card) → List·Memᴰ card cards → winsLine cards card ≡ false
   nobody-wins e card m =
-      let h = held card m in
       cases (winsLine cards card)
       (λ (t : winsLine cards card ≡ true).
-      let s = wins-shown cidBits (map cidSender cards) (cidSender card) (Memᴰ·map cidSender m) (length-bits (cidOf card) ∙ ap (λ (n : ℕ). n * 8) (h .0)) t in
+      let s = winner card m t in
       absurd (false≢true (sym (none-ready cards e card m) ∙ s .0)))
       (λ t. t)
 

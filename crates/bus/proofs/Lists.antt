@@ -6,15 +6,17 @@
 --   first-all      what holds in each of the first places holds of each card there
 --   getD-in        a card in one of the first places is one of the first cards
 --   getD-any       an element that is there does not depend on what stands for a missing one
---   below-all      a list of small numbers, from its elements
+--   below-all, bytes-held   a list of small numbers, from its elements
 -- Assumes nothing.
 use mathlib.Core.Path.{_≡_, refl, sym, ap, ap₂, _∙_, subst}
 use mathlib.Core.List.{List, [], _∷_, _++_, map, List·Memᴰ, List·Memᴰ·head, List·Memᴰ·tail, List·Memᴰ·not-nil}
-use Prim.Native.Nat.{ℕ, zero, suc, _+_, _≤_, _<_, min}
+use Prim.Native.Nat.{ℕ, zero, suc, _+_, _<_}
 use native.Mathlib.Numerals.{add-one}
 use native.Mathlib.Omega.{arith}
 use lib.ListN.{length, take, drop, getD, set, length-map}
 use lib.Seq.{length-take-le}
+use mir.Syntax.{w8}
+use mir.Val.{Fits}
 use Rattle.crc.specs.Bits.{Below}
 use Rattle.record.specs.declared.Card.{Card}
 use Rattle.bus.specs.Bus.{countOf, cardsOf, withCards}
@@ -55,7 +57,8 @@ change-all f bus next i long all count cards =
     (cards ∙ ap (λ (k : ℕ). changed f k (bus .cards)) all ∙ ap (λ (k : ℕ). map f (cardsOf bus) ++ drop k (bus .cards)) (sym n))
     count
 
-pub first-all : (P : Card → Type 0) (n : ℕ) (l : List Card) → ((i : ℕ) (d : Card) → i < n → P (getD l i d)) → (c : Card) → List·Memᴰ c (take n l) → P c
+pub first-all : (P : Card → Type 0) (n : ℕ) (l : List Card) → ((i : ℕ) (d : Card) → i < n → P (getD l i d))
+    → (c : Card) → List·Memᴰ c (take n l) → P c
 first-all P zero l h c m = absurd (List·Memᴰ·not-nil m)
 first-all P (suc n) [] h c m = absurd (List·Memᴰ·not-nil m)
 first-all P (suc n) (x ∷ l) h c (List·Memᴰ·head e) = subst P (sym e) (h 0 x (omega arith))
@@ -75,3 +78,6 @@ getD-in (suc n) (x ∷ l) (suc i) d h k = List·Memᴰ·tail (getD-in n l i d (o
 pub below-all : (m : ℕ) (l : List ℕ) → ((i : ℕ) → getD l i 0 < m) → Below m l
 below-all m [] h = tt
 below-all m (x ∷ l) h = (h 0, below-all m l (λ i. h (suc i)))
+
+pub bytes-held : (l : List ℕ) (n : ℕ) → length l ≡ n → ((i : ℕ) → Fits w8 (getD l i 0)) → (length l ≡ n) × Below 256 l
+bytes-held l n e h = (e, below-all 256 l (λ i. h i .fits))

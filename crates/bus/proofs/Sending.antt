@@ -128,8 +128,8 @@ abbrev Counts : Written → Type 0
 Counts (Bytes n) = Unit {0}
 Counts (NotWritten r) = ⊥
 
-module _ (registers : Registers) (sent : Sent) (out : List ℕ) (h : Sendable sent) (cid : length (registers .cid) ≡ 16) (csd : length (registers .csd) ≡ 16)
-    (k : 17 ≤ length out) (written : Written) (e : written ≡ sentWritten registers sent out) where
+module _ (registers : Registers) (sent : Sent) (out : List ℕ) (h : Sendable sent) (cid : length (registers .cid) ≡ 16)
+    (csd : length (registers .csd) ≡ 16) (k : 17 ≤ length out) (written : Written) (e : written ≡ sentWritten registers sent out) where
   pub written-bytes : (n : ℕ) → written ≡ Bytes n → (n ≡ length (sentBytes registers sent)) × (n ≤ 17)
   written-bytes n b =
       let r = written-right registers sent out h cid csd k in

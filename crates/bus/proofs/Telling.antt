@@ -43,7 +43,8 @@ use Rattle.bus.specs.declared.Shown.the-variants.{Line, Silent}
 use Rattle.bus.specs.declared.Turned.{Turned}
 
 -- ---- turn by turn
-heard-snoc : (heard : Heard) (frames : List (List ℕ)) (frame : List ℕ) → heardFrom heard (frames ++ frame ∷ []) ≡ heardOf (heardFrom heard frames) frame
+heard-snoc : (heard : Heard) (frames : List (List ℕ)) (frame : List ℕ)
+    → heardFrom heard (frames ++ frame ∷ []) ≡ heardOf (heardFrom heard frames) frame
 unfolding heardFrom
 heard-snoc heard [] frame = refl
 heard-snoc heard (x ∷ frames) frame = heard-snoc (heardOf heard x) frames frame
@@ -73,7 +74,8 @@ heard-all heard [] = (refl, omega arith)
 heard-all heard (frame ∷ frames) = let r = heard-all (heardOf heard frame) frames in (r .0, r .1 ∙ omega arith)
 
 -- ---- who wins
-pub turn-right : (bus : Bus) (index argument : ℕ) (low : Low) (card : Card) → low ≡ lowFor bus index → HeldAll bus index → List·Memᴰ card (cardsOf bus)
+pub turn-right : (bus : Bus) (index argument : ℕ) (low : Low) (card : Card) → low ≡ lowFor bus index → HeldAll bus index
+    → List·Memᴰ card (cardsOf bus)
     → commandOf (card .link) (metWith (holds low card) card) index argument ≡ commandAt (cardsOf bus) index argument card
 unfolding commandAt lowFor
 turn-right bus index argument low card e held m =
@@ -84,7 +86,8 @@ turn-right bus index argument low card e held m =
     ap (λ (w : Bool). commandOf (card .link) (metWith w card) index argument)
     (ap (λ (l : Low). holds l card) found ∙ holders (cardsOf bus) all card m))
     (λ (t : eqb index 2 ≡ false).
-    any-wins (card .link) (card .registers .ocr) (card .registers .groups) (card .lock .locked) (holds low card) (winsLine (cardsOf bus) card) index argument t)
+    any-wins (card .link) (card .registers .ocr) (card .registers .groups) (card .lock .locked) (holds low card)
+    (winsLine (cardsOf bus) card) index argument t)
 
 -- one turn: the card after it, and what the line then holds
 module _ (bus : Bus) (index argument : ℕ) where

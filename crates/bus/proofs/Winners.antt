@@ -6,24 +6,24 @@
 --   better-.., holds-..   the step of the search and the question, as code tells their cases apart
 --   order-..     the three answers of a comparison
 -- Assumes nothing.
-use mathlib.Core.Path.{_≡_, refl, sym, ap, ap₂, _∙_, subst}
-use mathlib.Core.Bool.{Bool, true, false, false≢true}
+use mathlib.Core.Path.{_≡_, refl, sym, ap, _∙_, subst}
+use mathlib.Core.Bool.{Bool, true, false, not, false≢true}
 use mathlib.Core.List.{List, [], _∷_, _++_, map, List·Memᴰ, List·Memᴰ·head, List·Memᴰ·tail, List·Memᴰ·not-nil, Memᴰ·map, Memᴰ·of-map}
 use mathlib.Core.Logic.{_⊎_, inl, inr, ⊎-elim}
-use Prim.Native.Nat.{ℕ, zero, suc, _+_, _*_, _≤_, _<_}
+use Prim.Native.Nat.{ℕ, _+_, _*_, _≤_, _<_}
 use native.Mathlib.Nat.{le-refl, le-trans}
 use native.Mathlib.Numerals.{add-one}
 use native.Mathlib.Omega.{arith}
-use borrow.Author.Tests.{ltb-true, ltb-false, eqb-true, eqb-false, eq-eqb, ne-eqb, lt-ltb, le-ltb}
+use borrow.Author.Tests.{ltb-true, ltb-false, eqb-true, eqb-false, eq-eqb, ne-eqb, lt-ltb, le-ltb, not-true, not-false}
 use lib.Dec.{eqb, ltb}
 use lib.ListN.{length, take, getD}
 use lib.Seq.{take-suc}
 use Rattle.base.proofs.Cases.{cases}
-use Rattle.base.specs.Choice.{pick, unless}
+use Rattle.base.specs.Choice.{unless}
 use Rattle.crc.proofs.Bits.{length-bits, bits-below}
 use Rattle.crc.specs.Bits.{bits, spelt, Below}
 use Rattle.line.proofs.Arbitration.{Bitwise, bitwise, winners, line-is-smallest}
-use Rattle.line.specs.Line.{Sender, contested, wins}
+use Rattle.line.specs.Line.{Sender, contested}
 use Rattle.record.specs.declared.Card.{Card}
 use Rattle.bus.specs.Bus.{isReady, cidSender, cidBits, winsLine}
 use Rattle.bus.specs.Contest.{numberOf, orderOf, cidOf, lowBy, byOrder, noLow, betterOf, lowFrom, holds, Held}
@@ -75,10 +75,13 @@ pub low-turn : (low was now : Low) (cards : List Card) (i : ℕ) (d : Card) → 
     → now ≡ betterOf was (getD cards i d) → now ≡ lowFrom low (take (i + 1) cards)
 low-turn low was now cards i d h p q =
     q ∙ ap (λ (l : Low). betterOf l (getD cards i d)) p
-    ∙ sym (ap (λ (k : ℕ). lowFrom low (take k cards)) (add-one i) ∙ ap (lowFrom low) (take-suc cards i d h) ∙ low-snoc low (take i cards) (getD cards i d))
+    ∙ sym
+    (ap (λ (k : ℕ). lowFrom low (take k cards)) (add-one i) ∙ ap (lowFrom low) (take-suc cards i d h)
+    ∙ low-snoc low (take i cards) (getD cards i d))
 
 -- one step: what was found is no larger, and a Ready card's CID is no smaller than what is found
-better-old : (low : Low) (card : Card) → low .any ≡ true → (betterOf low card .any ≡ true) × (numberOf (betterOf low card .cid) ≤ numberOf (low .cid))
+better-old : (low : Low) (card : Card) → low .any ≡ true
+    → (betterOf low card .any ≡ true) × (numberOf (betterOf low card .cid) ≤ numberOf (low .cid))
 unfolding betterOf
 better-old low card any =
     cases (isReady card)
@@ -88,7 +91,8 @@ better-old low card any =
     (λ h o. rw (r, any, o) (refl, le-refl (numberOf (low .cid)))))
     (λ r. rw r (any, le-refl (numberOf (low .cid))))
 
-better-new : (low : Low) (card : Card) → isReady card ≡ true → (betterOf low card .any ≡ true) × (numberOf (betterOf low card .cid) ≤ numberOf (cidOf card))
+better-new : (low : Low) (card : Card) → isReady card ≡ true
+    → (betterOf low card .any ≡ true) × (numberOf (betterOf low card .cid) ≤ numberOf (cidOf card))
 unfolding betterOf
 better-new low card r =
     cases (low .any)
@@ -107,39 +111,45 @@ better-from low card =
     (λ any. inr (r, rw (r, any))))
     (λ r. inl (rw r))
 
--- the answers of the step, as code tells them apart
-module _ (low : Low) (card : Card) where
-  pub better-silent : isReady card ≡ false → low ≡ betterOf low card
+-- the answers of the step and of the question, from the tests that code makes
+module _ (low : Low) (card : Card) (ready : Bool) (told : ready ≡ isReady card) where
+  pub better-silent : not ready ≡ true → low ≡ betterOf low card
   unfolding betterOf
-  better-silent r = rw r
+  better-silent r = let e = sym told ∙ not-true ready r in rw e
 
-  pub better-first : isReady card ≡ true → low .any ≡ false → lowBy card ≡ betterOf low card
+  pub better-first : not ready ≡ false → not (low .any) ≡ true → lowBy card ≡ betterOf low card
   unfolding betterOf
-  better-first r any = rw (r, any)
+  better-first r a = let e = sym told ∙ not-false ready r in let any = not-true (low .any) a in rw (e, any)
 
-  pub better-by : (order : Order) → isReady card ≡ true → low .any ≡ true → orderOf (cidOf card) (low .cid) ≡ order
-      → byOrder order (lowBy card) low low ≡ betterOf low card
+  pub better-by : not ready ≡ false → not (low .any) ≡ false → (order is : Order) → order ≡ orderOf (cidOf card) (low .cid) → order ≡ is
+      → byOrder is (lowBy card) low low ≡ betterOf low card
   unfolding betterOf
-  better-by order r any o =
+  better-by r a order is o e =
       sym
-      (ap (λ (t : Bool). unless t low (unless (low .any) (lowBy card) (byOrder (orderOf (cidOf card) (low .cid)) (lowBy card) low low))) r
-      ∙ ap (λ (t : Bool). unless t (lowBy card) (byOrder (orderOf (cidOf card) (low .cid)) (lowBy card) low low)) any
-      ∙ ap (λ (k : Order). byOrder k (lowBy card) low low) o)
+      (ap (λ (t : Bool). unless t low (unless (low .any) (lowBy card) (byOrder (orderOf (cidOf card) (low .cid)) (lowBy card) low low)))
+      (sym told ∙ not-false ready r)
+      ∙ ap (λ (t : Bool). unless t (lowBy card) (byOrder (orderOf (cidOf card) (low .cid)) (lowBy card) low low)) (not-false (low .any) a)
+      ∙ ap (λ (k : Order). byOrder k (lowBy card) low low) (sym o ∙ e))
 
-  pub holds-none : low .any ≡ false → false ≡ holds low card
+  pub holds-silent : not (low .any) ≡ false → not ready ≡ true → false ≡ holds low card
   unfolding holds
-  holds-none any = rw any
+  holds-silent a r = let any = not-false (low .any) a in let e = sym told ∙ not-true ready r in rw (any, e)
 
-  pub holds-silent : low .any ≡ true → isReady card ≡ false → false ≡ holds low card
+  pub holds-by : not (low .any) ≡ false → not ready ≡ false → (order is : Order) → order ≡ orderOf (cidOf card) (low .cid) → order ≡ is
+      → byOrder is false true false ≡ holds low card
   unfolding holds
-  holds-silent any r = rw (any, r)
+  holds-by a r order is o e =
+      let any = not-false (low .any) a in
+      let on = sym told ∙ not-false ready r in
+      let by = sym o ∙ e in
+      rw (any, on, by)
 
-  pub holds-by : (order : Order) → low .any ≡ true → isReady card ≡ true → orderOf (cidOf card) (low .cid) ≡ order
-      → byOrder order false true false ≡ holds low card
-  unfolding holds
-  holds-by order any r o = rw (any, r, o)
+pub holds-none : (low : Low) (card : Card) → not (low .any) ≡ true → false ≡ holds low card
+unfolding holds
+holds-none low card a = let any = not-true (low .any) a in rw any
 
-low-old : (low : Low) (cards : List Card) → low .any ≡ true → (lowFrom low cards .any ≡ true) × (numberOf (lowFrom low cards .cid) ≤ numberOf (low .cid))
+low-old : (low : Low) (cards : List Card) → low .any ≡ true
+    → (lowFrom low cards .any ≡ true) × (numberOf (lowFrom low cards .cid) ≤ numberOf (low .cid))
 unfolding lowFrom
 low-old low [] any = (any, le-refl (numberOf (low .cid)))
 low-old low (card ∷ cards) any =

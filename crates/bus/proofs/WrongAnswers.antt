@@ -26,7 +26,7 @@
 --   line-ored              two OCRs that differ show as their OR
 --   silence-shown          no sender, and a line of bytes
 -- Assumes nothing.
-use mathlib.Core.Bool.{Bool, true, false}
+use mathlib.Core.Bool.{true}
 use mathlib.Core.List.{List, [], _∷_, _++_}
 use mathlib.Core.Path.{_≡_, ap}
 use Prim.Native.Nat.{ℕ, _-_}
@@ -44,7 +44,7 @@ use Rattle.line.specs.Line.{line, contested, wins, together}
 use Rattle.lock.specs.Passwords.{holding, noPassword}
 use Rattle.moves.specs.Classes.{classOf}
 use Rattle.moves.specs.Moves.{moveOf}
-use Rattle.moves.specs.Rows.{transferRow, rowOf}
+use Rattle.moves.specs.Rows.{rowOf}
 use Rattle.record.specs.Making.{refusedMake}
 use Rattle.record.specs.declared.Card.{Card}
 use Rattle.states.specs.declared.State.{State}

@@ -1,5 +1,5 @@
 -- A command for all cards as code carries it out: each takes it in its turn, and what it sends is ANDed into the line. That this is what
--- the line shows is proved (`told-is-command` in proofs/Hearing).
+-- the line shows is proved (`line-is-heard` and `told-is-command` in proofs/Telling).
 -- Assumes nothing.
 use mathlib.Core.Bool.{Bool}
 use mathlib.Core.List.{List, [], _∷_, map}

@@ -19,7 +19,7 @@ ghost use mathlib.Core.Path.{_≡_};
 ghost use Prim.Native.Nat.{_≤_, max};
 ghost use lib.ListN.{take};
 ghost use Rattle.bus.specs.Bus.{busIndices, commandFor};
-ghost use Rattle.bus.specs.Hearing.{quiet, Sendable, heardOf, turnOf, shownFrom, toldOf};
+ghost use Rattle.bus.specs.Hearing.{Sendable, heardOf, turnOf, shownFrom, toldOf};
 ghost use Rattle.card.specs.Sent.{sentBytes};
 ghost use Rattle.crc.specs.Bits.{Below};
 ghost use Rattle.line.specs.Bytes.{anded};

@@ -23,7 +23,7 @@ use Rattle.base.proofs.Cases.{cases}
 use Rattle.base.specs.Choice.{pick}
 use Rattle.crc.proofs.Bits.{onward-is, spelt-lt, bitsOf-spelt}
 use Rattle.crc.specs.Bits.{bitsOf, spelt, Below}
-use Rattle.line.specs.Line.{Sender, top, rest, sends, line, heard, contested, wins}
+use Rattle.line.specs.Line.{Sender, top, rest, line, heard, contested, wins}
 
 -- ---- tests
 pub and-left : (a b : Bool) → (a && b) ≡ true → a ≡ true
@@ -171,7 +171,8 @@ someone (suc n) ss b s m on =
     let from = Memᴰ·of-map (heard l) ss (z .1) in
     (from .0, from .1, rw (from .2) (z .2))
 
-least : (shows bit : ℕ) (w bs : List ℕ) → length w ≡ length bs → Below 2 w → shows ≤ bit → (bit ≡ shows → spelt w ≤ spelt bs) → spelt (shows ∷ w) ≤ spelt (bit ∷ bs)
+least : (shows bit : ℕ) (w bs : List ℕ) → length w ≡ length bs → Below 2 w → shows ≤ bit → (bit ≡ shows → spelt w ≤ spelt bs)
+    → spelt (shows ∷ w) ≤ spelt (bit ∷ bs)
 least shows bit w bs h b below equal =
     rw (spelt-cons shows w, spelt-cons bit bs, h)
     (cases (leb bit shows)

@@ -10,17 +10,17 @@
 use mathlib.Core.Path.{_≡_, refl, sym, ap, ap₂, _∙_, subst}
 use mathlib.Core.Bool.{true}
 use mathlib.Core.List.{List, [], _∷_, _++_, map, List·Memᴰ, List·Memᴰ·head, List·Memᴰ·tail, List·Memᴰ·not-nil}
-use mathlib.Core.Logic.{_⊎_, inl, inr, ⊎-elim}
-use Prim.Native.Nat.{ℕ, zero, suc, _+_, _*_, _/_, _%_, _^_, _≤_, _<_, min}
+use mathlib.Core.Logic.{_⊎_, ⊎-elim}
+use Prim.Native.Nat.{ℕ, zero, suc, _+_, _*_, _≤_, _<_, min}
 use native.Mathlib.Numerals.{add-one}
 use native.Mathlib.Omega.{arith}
 use lib.Bits.{bitAnd}
-use lib.ListN.{length, take, getD, set, replicate, length-take, length-replicate, replicate-append-replicate}
-use Rattle.crc.proofs.Bits.{bits-below, length-bits, length-bitsOf, octets-bits, below-take}
+use lib.ListN.{length, take, getD, set, replicate, length-replicate, replicate-append-replicate}
+use Rattle.crc.proofs.Bits.{bits-below, length-bits, octets-bits, below-take}
 use Rattle.crc.specs.Bits.{bitsOf, bits, octets, Below}
 use Rattle.status.proofs.Bits.{bit-and}
 use Rattle.line.specs.Bytes.{sending, anded, andedAll}
-use Rattle.line.specs.Line.{Sender, top, rest, sends, line, onward, together}
+use Rattle.line.specs.Line.{Sender, line, onward, together}
 
 -- ---- bits
 abbrev pub mins : List ℕ → List ℕ → List ℕ
@@ -196,7 +196,8 @@ together-is-and n m frames h small =
     take-andedAll n (replicate m 255) frames ∙ ap (λ (l : List ℕ). andedAll l frames) (take-replicate n m 255 h) in
     let long : length all ≡ n = length-andedAll (replicate n 255) frames ∙ length-replicate n 255 in
     let below : Below 256 all = subst (Below 256) part (below-take 256 n (andedAll (replicate m 255) frames) small) in
-    ap (octets n) (together-mins (8 * n) frames ∙ ap (λ (l : List ℕ). minsAll l frames) (sym (bits-ones n)) ∙ sym (bits-andedAll (replicate n 255) frames))
+    ap (octets n)
+    (together-mins (8 * n) frames ∙ ap (λ (l : List ℕ). minsAll l frames) (sym (bits-ones n)) ∙ sym (bits-andedAll (replicate n 255) frames))
     ∙ ap (λ (k : ℕ). octets k (bits all)) (sym long)
     ∙ octets-bits all below
     ∙ sym part
@@ -216,13 +217,15 @@ again voice row (frame ∷ frames) h =
     let later : OneVoice voice frames = λ f m. h f (List·Memᴰ·tail m) in
     ⊎-elim
     (λ (e : frame ≡ []).
-    ap (λ (f : List ℕ). minsAll (mins (mins row (bits voice)) (bits f)) frames) e ∙ ap (λ (l : List ℕ). minsAll l frames) (silent (mins row (bits voice))) ∙ again voice row frames later)
+    ap (λ (f : List ℕ). minsAll (mins (mins row (bits voice)) (bits f)) frames) e
+    ∙ ap (λ (l : List ℕ). minsAll l frames) (silent (mins row (bits voice))) ∙ again voice row frames later)
     (λ (e : frame ≡ voice).
     ap (λ (f : List ℕ). minsAll (mins (mins row (bits voice)) (bits f)) frames) e
     ∙ ap (λ (l : List ℕ). minsAll l frames) (mins-twice row (bits voice)) ∙ again voice row frames later)
     (h frame (List·Memᴰ·head refl))
 
-heard-once : (voice row : List ℕ) (frames : List (List ℕ)) → OneVoice voice frames → List·Memᴰ voice frames → minsAll row frames ≡ mins row (bits voice)
+heard-once : (voice row : List ℕ) (frames : List (List ℕ)) → OneVoice voice frames → List·Memᴰ voice frames
+    → minsAll row frames ≡ mins row (bits voice)
 heard-once voice row [] h m = absurd (List·Memᴰ·not-nil m)
 heard-once voice row (frame ∷ frames) h (List·Memᴰ·head e) =
     ap (λ (f : List ℕ). minsAll (mins row (bits f)) frames) (sym e) ∙ again voice row frames (λ f k. h f (List·Memᴰ·tail k))

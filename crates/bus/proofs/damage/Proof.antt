@@ -1,12 +1,10 @@
 -- `bus::damage` meets its contract. The loop's invariant: the first cards have been told, the others are as they were.
 -- Assumes nothing.
-use mathlib.Core.List.{List}
-use mathlib.Core.Path.{_≡_, refl, sym, ap, _∙_}
-use Prim.Native.Nat.{ℕ, _≤_, _-_, min}
+use mathlib.Core.Path.{_≡_, refl, ap, _∙_}
+use Prim.Native.Nat.{_≤_, _-_}
 use native.Mathlib.Omega.{arith}
 use borrow.Author.Needs.{needs}
-use lib.ListN.{length, getD, length-map}
-use Rattle.record.specs.declared.Card.{Card}
+use lib.ListN.{length, length-map}
 use Rattle.bus.proofs.Lists.{changed, changed-next, change-turn, change-all}
 use Rattle.bus.specs.Bus.{countOf, damagedCard}
 use Rattle.bus.proofs.damage.Statement.{statement}
@@ -22,9 +20,13 @@ abbrev μ-loop : tie.MeasureT-loop
 loop-again : tie.Need-loop-again Inv-loop μ-loop
 loop-again c =
     let l = c .before .before .before .loop in
-    let cards = c .before .before .before .before .before .args .bus .cards in
-    let now = changed-next damagedCard (l .i) cards (l .next .cards) _ (l .inv .3) in
-    (search needs, l .inv .1, l .inv .2, change-turn damagedCard (l .i) cards (l .next .cards) _ _ (l .inv .3) (c .damaged .ensures ∙ ap damagedCard now))
+    let cards = c .before .before .before .before .before .args .bus .cards in (
+      search needs,
+      l .inv .1,
+      l .inv .2,
+      change-turn damagedCard (l .i) cards (l .next .cards) _ _ (l .inv .3)
+          (c .damaged .ensures ∙ ap damagedCard (changed-next damagedCard (l .i) cards (l .next .cards) _ (l .inv .3))),
+    )
 
 returns : tie.Need-returns Inv-loop μ-loop
 returns c =

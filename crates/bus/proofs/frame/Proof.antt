@@ -8,7 +8,6 @@ use native.Mathlib.Omega.{arith}
 use borrow.Author.Needs.{needs}
 use borrow.Author.Tests.{le-leb, lt-leb}
 use denote.Ref.{now}
-use lib.Dec.{leb}
 use Rattle.base.specs.Choice.{unless}
 use Rattle.base.specs.Refusals.{by}
 use Rattle.wire.specs.Frames.{framingOf}
@@ -16,7 +15,6 @@ use Rattle.wire.specs.declared.Framing.{Framing}
 use Rattle.wire.specs.declared.Framing.the-variants.{Framed}
 use Rattle.bus.specs.Bus.{countOf, cardsOf, withCards, refusedOn, damagedCard, commandFor, framedOn, busFrame}
 use Rattle.bus.specs.declared.Bus.{Bus}
-use Rattle.bus.specs.declared.Framed.{Framed as Answered}
 use Rattle.bus.proofs.frame.Statement.{statement}
 use Rattle.bus.proofs.frame.Tie as tie
 
@@ -29,7 +27,8 @@ judged bus frame framing some e =
 
 -- and by its CRC7
 checked : (bus : Bus) (index argument : ℕ) (right told : Bool) → right ≡ told
-    → unless told (refusedOn (withCards bus (map damagedCard (cardsOf bus))) (by 3)) (commandFor bus index argument) ≡ framedOn bus (Framed index argument right)
+    → unless told (refusedOn (withCards bus (map damagedCard (cardsOf bus))) (by 3)) (commandFor bus index argument)
+    ≡ framedOn bus (Framed index argument right)
 checked bus index argument right told e =
     sym (ap (λ (t : Bool). unless t (refusedOn (withCards bus (map damagedCard (cardsOf bus))) (by 3)) (commandFor bus index argument)) e)
 
@@ -47,7 +46,8 @@ returns-2 c =
     let a = u .before .before .before .before .args in
     c .command-for .ensures
     ∙ checked (a .bus) _ _ _ true (c .before .if2 .taken)
-    ∙ judged (a .bus) (now (a .frame)) _ (omega (arith, u .before .before .places .ensures, u .before .if1 .left)) (sym (u .unframe .ensures) ∙ g .1)
+    ∙ judged (a .bus) (now (a .frame)) _ (omega (arith, u .before .before .places .ensures, u .before .if1 .left))
+    (sym (u .unframe .ensures) ∙ g .1)
 
 returns-3 : tie.Need-returns-3
 returns-3 c =
@@ -58,7 +58,8 @@ returns-3 c =
     c .refuse2 .ensures
     ∙ ap (λ (bus : Bus). refusedOn bus (by 3)) (c .before .damage .ensures)
     ∙ checked (a .bus) _ _ _ false (c .before .before .if2 .left)
-    ∙ judged (a .bus) (now (a .frame)) _ (omega (arith, u .before .before .places .ensures, u .before .if1 .left)) (sym (u .unframe .ensures) ∙ g .1)
+    ∙ judged (a .bus) (now (a .frame)) _ (omega (arith, u .before .before .places .ensures, u .before .if1 .left))
+    (sym (u .unframe .ensures) ∙ g .1)
 
 returns-4 : tie.Need-returns-4
 returns-4 c =
@@ -66,7 +67,8 @@ returns-4 c =
     let u = f .before .before in
     let a = u .before .before .before .before .args in
     c .refuse3 .ensures
-    ∙ judged (a .bus) (now (a .frame)) _ (omega (arith, u .before .before .places .ensures, u .before .if1 .left)) (sym (u .unframe .ensures) ∙ f .framing2 .given .1)
+    ∙ judged (a .bus) (now (a .frame)) _ (omega (arith, u .before .before .places .ensures, u .before .if1 .left))
+    (sym (u .unframe .ensures) ∙ f .framing2 .given .1)
 
 pub frame-spec : {M : Type 1} → statement M
 frame-spec =

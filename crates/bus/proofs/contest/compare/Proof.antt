@@ -8,7 +8,6 @@ use borrow.Author.Needs.{needs}
 use lib.ListN.{length, getD}
 use mir.Syntax.{w8}
 use mir.Val.{Fits}
-use Rattle.crc.specs.Bits.{Below}
 use Rattle.bus.proofs.Lists.{below-all}
 use Rattle.bus.proofs.Numbers.{number-less, number-same}
 use Rattle.bus.proofs.Winners.{order-smaller, order-same, order-larger}
@@ -41,7 +40,8 @@ returns-2 c =
     let fa : (i : ℕ) → Fits w8 (getD a i 0) = λ i. search needs in
     let fb : (i : ℕ) → Fits w8 (getD b i 0) = λ i. search needs in
     order-larger a b
-    (number-less (l .i) b a n (below-all 256 b (λ i. fb i .fits)) (below-all 256 a (λ i. fa i .fits)) (search needs) (λ j h. sym (l .inv .1 j h)) (c .if2 .taken))
+    (number-less (l .i) b a n (below-all 256 b (λ i. fb i .fits)) (below-all 256 a (λ i. fa i .fits)) (search needs)
+    (λ j h. sym (l .inv .1 j h)) (c .if2 .taken))
 
 loop-again : tie.Need-loop-again Inv-loop μ-loop
 loop-again c = (search needs, below-more _ _ (c .before .before .before .loop .inv .1) (omega arith))

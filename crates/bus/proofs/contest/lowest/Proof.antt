@@ -1,6 +1,6 @@
 -- `bus::contest::lowest` meets its contract. The loop's invariant: the smallest CID of the cards so far, each of 16 bytes.
 -- Assumes nothing.
-use mathlib.Core.Path.{_≡_, sym, ap, _∙_, subst}
+use mathlib.Core.Path.{_≡_, ap, _∙_, subst}
 use Prim.Native.Nat.{ℕ, _≤_, _<_, _-_}
 use native.Mathlib.Omega.{arith}
 use borrow.Author.Count.{below-more}
@@ -30,7 +30,8 @@ returns c =
 
 loop-holds : tie.Need-loop-holds Inv-loop μ-loop
 loop-holds c =
-    (search needs, c .before .places .ensures, c .nobody2 .ensures ∙ low-start noLow (c .before .before .before .args .t1 .cards), λ k h. absurd (omega arith))
+    let cards = c .before .before .before .args .t1 .cards in
+    (search needs, c .before .places .ensures, c .nobody2 .ensures ∙ low-start noLow cards, λ k h. absurd (omega arith))
 
 loop-again : tie.Need-loop-again Inv-loop μ-loop
 loop-again c =
@@ -51,7 +52,8 @@ returns-2 c =
     let s = c .before .before .before .before .before in
     let l = c .before .loop in
     let all : l .i ≡ countOf (s .args .t1) = omega (arith, l .inv .1) in (
-      simp (eq-eqb (s .args .index) 2 (c .before .before .before .before .if1 .left)) (l .inv .2 ∙ ap (λ k. lowFrom noLow (take k (s .args .t1 .cards))) all),
+      simp (eq-eqb (s .args .index) 2 (c .before .before .before .before .if1 .left))
+          (l .inv .2 ∙ ap (λ k. lowFrom noLow (take k (s .args .t1 .cards))) all),
       λ e i d h. l .inv .3 i (omega arith) d,
     )
 

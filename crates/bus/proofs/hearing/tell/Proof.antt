@@ -41,7 +41,8 @@ loop-again c =
     let low = t .before .before .before .before .before .before .lowest .ensures in
     let long : length (a .bus .cards) ≡ 30 = simp length-map at (s .good .0 .1 .1 .0 .1 .0 .1) in
     let more =
-    tell-turn (a .bus) (a .index) (a .argument) (l .i) _ _ (l .next .cards) (l .heard) _ _ long (omega (arith, l .inv .1)) (low .0) (low .1) (l .inv .3) (l .inv .4)
+    tell-turn (a .bus) (a .index) (a .argument) (l .i) _ _ (l .next .cards) (l .heard) _ _ long (omega (arith, l .inv .1))
+    (low .0) (low .1) (l .inv .3) (l .inv .4)
     (t .before .wins .ensures) (t .turn .ensures .0) in
     (search needs, l .inv .1, l .inv .2, more .0, more .1, t .turn .ensures .1)
 

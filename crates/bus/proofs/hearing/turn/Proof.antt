@@ -1,6 +1,6 @@
 -- `bus::hearing::turn` meets its contract: what the command leaves, and what the line then holds.
 -- Assumes nothing.
-use mathlib.Core.Path.{_≡_, sym, ap, ap₂, _∙_, subst}
+use mathlib.Core.Path.{sym, ap, ap₂, _∙_, subst}
 use borrow.Author.Needs.{needs}
 use Rattle.card.specs.Sent.{sentBytes}
 use Rattle.command.specs.declared.Commanded.{Commanded}
