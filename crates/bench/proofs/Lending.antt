@@ -1,6 +1,4 @@
 -- Laws of parts of a list, as far as it goes.
---   take-short         the first n of a part are at most n, and at most as many as the list has
---   part-none, part-rest, part-some    a part from behind the end, up to the end, and before it
 --   lent-front, lent-back   the first k of a list and the rest, where k is n or as many as there are
 --   filled-length      a memory whose first n bytes are filled has as many of them as before
 --   stepped-answer, stepped-memory, stepped-map, stepped-output    a call that is lent the first bytes of two buffers
@@ -16,7 +14,7 @@ use native.Mathlib.Omega.{arith}
 use borrow.Author.Tests.{leb-true, leb-false}
 use lib.Dec.{leb}
 use lib.ListN.{length, take, drop, replicate, length-append, length-take, length-drop, length-replicate, drop-of-length-le}
-use lib.Seq.{take-all, take-nil, drop-length}
+use lib.Seq.{take-all}
 use Rattle.base.proofs.Cases.{cases}
 use Rattle.bench.specs.Calls.{stepLent, memoryLent, mapLent, outputLent, replyText, callText, callLeft, callSaid, blank}
 use Rattle.bench.specs.Makes.{filled}
@@ -25,22 +23,6 @@ use Rattle.bench.specs.declared.World.{World}
 use Rattle.card.specs.Step.{stepOf, memoryOf, mapOf, outputOf}
 use Rattle.card.specs.declared.Call.{Call}
 use Rattle.card.specs.declared.Stepped.{Stepped}
-
-pub take-short : (s p : List ℕ) (from n : ℕ) → p ≡ take n (drop from s) → (length p ≤ n) × (length p ≤ length s)
-take-short s p from n e = rw e (omega (arith, length-take n (drop from s), length-drop from s), omega (arith, length-take n (drop from s), length-drop from s))
-
-pub part-none : (s : List ℕ) (from n k : ℕ) → length s ≤ from → take k (drop (length s) s) ≡ take n (drop from s)
-part-none s from n k h =
-    ap (take k) (drop-length s) ∙ take-nil k ∙ sym (take-nil n) ∙ ap (take n) (sym (drop-of-length-le s {i = from} h))
-
-pub part-rest : (s : List ℕ) (from n : ℕ) → length s - from ≤ n → take (length s - from) (drop from s) ≡ take n (drop from s)
-part-rest s from n h =
-    take-all (length s - from) (drop from s) (omega (arith, length-drop from s)) ∙ sym (take-all n (drop from s) (omega (arith, length-drop from s)))
-
-pub part-some : (s : List ℕ) (from n : ℕ) → take (from + n - from) (drop from s) ≡ take n (drop from s)
-part-some s from n =
-    let e : from + n - from ≡ n = omega arith in
-    ap (λ (k : ℕ). take k (drop from s)) e
 
 pub lent-front : (l : List ℕ) (n k : ℕ) → k ≡ min n (length l) → take (k - 0) l ≡ take n l
 lent-front l n k e =

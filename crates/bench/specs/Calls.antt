@@ -7,8 +7,10 @@ use lib.ListN.{length, take, drop, replicate}
 use Rattle.base.specs.Choice.{pick}
 use Rattle.base.specs.declared.Written.{Written}
 use Rattle.base.specs.declared.Written.the-variants.{Bytes, Refused as NotWritten}
-use Rattle.bench.specs.Lines.{wordLine, numberLine, refusedLine}
-use Rattle.bench.specs.Words.{lineWord, silentWord, takenWord, blockWord, doneWord, powerWord}
+use Rattle.bench.specs.Lines.{numberLine, refusedLine}
+use Rattle.lines.specs.Lines.{wordLine}
+use Rattle.bench.specs.Words.{takenWord, blockWord, doneWord, powerWord}
+use Rattle.lines.specs.Words.{lineWord, silentWord}
 use Rattle.bench.specs.Worlds.{withCard, goneOn, lentMemory, lentMap}
 use Rattle.bench.specs.declared.Calling.{Calling}
 use Rattle.bench.specs.declared.Calling.the-variants.{Frame, BlockIn, BlockOut, WorkDone, PowerOn}

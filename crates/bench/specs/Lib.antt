@@ -8,4 +8,3 @@ pub mod Transcript
 pub mod Wires
 pub mod Words
 pub mod Worlds
-pub mod Writing

@@ -5,8 +5,9 @@ use Prim.Native.Nat.{ℕ, _/_, _%_}
 use lib.Dec.{ltb}
 use lib.ListN.{length, take, drop, set}
 use Rattle.base.specs.Choice.{pick}
-use Rattle.bench.specs.Lines.{headText, numberText, hexText, endText, wordLine}
-use Rattle.bench.specs.Words.{cardWord, memWord, lentWord, pokedWord}
+use Rattle.lines.specs.Lines.{headText, numberText, hexText, endText, wordLine}
+use Rattle.bench.specs.Words.{memWord, lentWord, pokedWord}
+use Rattle.lines.specs.Words.{cardWord}
 use Rattle.bench.specs.Worlds.{withLent, ownMemory, ownMap}
 use Rattle.bench.specs.declared.Looking.{Looking}
 use Rattle.bench.specs.declared.Looking.the-variants.{Card, Memory, Lend, Poke}

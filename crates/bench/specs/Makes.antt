@@ -4,11 +4,11 @@ use mathlib.Core.Bool.{true}
 use mathlib.Core.List.{List, _++_}
 use Prim.Native.Nat.{ℕ, _+_}
 use lib.ListN.{length, take, drop, replicate}
-use Rattle.bench.specs.Lines.{plainLine, refusedMakeLine}
+use Rattle.lines.specs.Lines.{plainLine, refusalLine}
 use Rattle.bench.specs.Reading.{four}
 use Rattle.bench.specs.Words.{madeWord}
 use Rattle.bench.specs.Worlds.{goneOn, ended}
-use Rattle.bench.specs.Writing.{fronted}
+use Rattle.lines.specs.Writing.{fronted}
 use Rattle.bench.specs.declared.Making.{Making}
 use Rattle.bench.specs.declared.Said.{Said}
 use Rattle.bench.specs.declared.Sizes.{Sizes}
@@ -49,7 +49,7 @@ sizesMade m = record { memory = m .memory; map = m .map }
 -- the line: `made` or `refused R`
 abbrev pub makeText : Outcome → List ℕ
 makeText Done = plainLine madeWord
-makeText (Refused refusal) = refusedMakeLine refusal
+makeText (Refused refusal) = refusalLine refusal
 
 -- "A refused make prints `refused R` and stops"
 abbrev pub makeSaid : World → Making → Card → Outcome → Said

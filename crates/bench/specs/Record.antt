@@ -6,12 +6,13 @@ use lib.Dec.{leb}
 use lib.ListN.{length}
 use Rattle.base.specs.Choice.{unless}
 use Rattle.bench.specs.Calls.{memoryLent, mapLent, callText, callSaid, calledBy, inputOf, roomOf, usedBy}
-use Rattle.bench.specs.Lines.{plainLine}
+use Rattle.lines.specs.Lines.{plainLine}
 use Rattle.bench.specs.Looks.{lookText, mapLooked, worldLooked, usedLooked}
 use Rattle.bench.specs.Makes.{memoryMade, mapMade, cardMade, makeText, makeSaid}
 use Rattle.bench.specs.Reading.{askedOf}
 use Rattle.bench.specs.Wires.{wireText, usedWiring}
-use Rattle.bench.specs.Words.{noCardWord, badKindWord, cutWord, tooBigWord}
+use Rattle.bench.specs.Words.{noCardWord, tooBigWord}
+use Rattle.lines.specs.Words.{badKindWord, cutWord}
 use Rattle.bench.specs.Worlds.{counted, goneOn, ended}
 use Rattle.bench.specs.declared.Asked.{Asked}
 use Rattle.bench.specs.declared.Asked.the-variants as asked

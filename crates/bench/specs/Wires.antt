@@ -7,7 +7,8 @@ use Rattle.base.specs.Output.{laid}
 use Rattle.base.specs.declared.Written.{Written}
 use Rattle.base.specs.declared.Written.the-variants.{Bytes, Refused}
 use Rattle.bench.specs.Calls.{blank}
-use Rattle.bench.specs.Lines.{wordLine, refusedLine}
+use Rattle.bench.specs.Lines.{refusedLine}
+use Rattle.lines.specs.Lines.{wordLine}
 use Rattle.bench.specs.Words.{frameWord, dataWord, goodWord}
 use Rattle.bench.specs.declared.Wiring.{Wiring}
 use Rattle.bench.specs.declared.Wiring.the-variants.{Frame, Block, Check}

@@ -5,10 +5,7 @@ use crate::Calling;
 use crate::Said;
 use crate::World;
 use crate::make::fill;
-use crate::read::part;
-use crate::text::least;
 use crate::text::refused;
-use crate::text::say;
 use crate::text::say_number;
 use crate::worlds::goes_on;
 use base::Written;
@@ -17,12 +14,15 @@ use card::Outcome;
 use card::Reply;
 use card::Stepped;
 use command::Sent;
+use lines::parts::least;
+use lines::parts::part;
+use lines::text::say;
 use record::Registers;
 ghost use mathlib.Core.Path.{_≡_};
 ghost use Prim.Native.Nat.{_+_, _*_, _≤_, _<_};
 ghost use lib.ListN.{length};
 ghost use Rattle.bench.specs.Calls.{stepLent, memoryLent, mapLent, outputLent, shownText, sentText, frameText, takenText, blockText, replyText, callText, callLeft, callSaid, calledBy, inputOf, roomOf, usedBy};
-ghost use Rattle.bench.specs.Writing.{Wrote};
+ghost use Rattle.lines.specs.Writing.{Wrote};
 
 // A call of the card, lent so much of each buffer.
 fn lent_step(

@@ -8,16 +8,16 @@ use crate::World;
 use crate::calls::called;
 use crate::looks::looked;
 use crate::make::make;
-use crate::text::plain;
 use crate::wires::wired;
 use crate::worlds::counted;
 use crate::worlds::ends;
+use lines::text::plain;
 ghost use mathlib.Core.Path.{_≡_};
 ghost use Prim.Native.Nat.{_≤_};
 ghost use lib.ListN.{length};
 ghost use Rattle.bench.specs.Record.{stopText, askedText, askedMemory, askedMap, askedSaid};
 ghost use Rattle.bench.specs.Worlds.{ended};
-ghost use Rattle.bench.specs.Writing.{Wrote};
+ghost use Rattle.lines.specs.Writing.{Wrote};
 
 fn stop_line(stop: Stop, out: &mut [u8]) -> usize
     requires { ⌜ 64 ≤ length (now out) ⌝ }

@@ -4,13 +4,13 @@
 use crate::Looking;
 use crate::Said;
 use crate::World;
-use crate::read::part;
-use crate::text::ending;
-use crate::text::head;
-use crate::text::hexed;
-use crate::text::number;
-use crate::text::say;
 use crate::worlds::goes_on;
+use lines::parts::part;
+use lines::text::ending;
+use lines::text::head;
+use lines::text::hexed;
+use lines::text::number;
+use lines::text::say;
 use record::Link;
 use status::Errors;
 ghost use mathlib.Core.Path.{_≡_};
@@ -19,7 +19,7 @@ ghost use lib.ListN.{length};
 ghost use Rattle.status.specs.Status.{flag};
 ghost use Rattle.bench.specs.Looks.{linkText, flagsText, cardText, memoryText, lookText, poked, mapLooked, worldLooked, usedLooked};
 ghost use Rattle.bench.specs.Worlds.{goneOn};
-ghost use Rattle.bench.specs.Writing.{Wrote};
+ghost use Rattle.lines.specs.Writing.{Wrote};
 
 fn link_text(link: Link, out: &mut [u8], at: usize) -> usize
     requires { ⌜ at + 31 ≤ length (now out) ⌝ }

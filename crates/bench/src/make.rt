@@ -6,19 +6,19 @@ use crate::Said;
 use crate::Sizes;
 use crate::World;
 use crate::read::four;
-use crate::read::part;
-use crate::text::front;
-use crate::text::least;
-use crate::text::plain;
-use crate::text::refused_make;
 use crate::worlds::ends;
 use crate::worlds::goes_on;
+use lines::parts::front;
+use lines::parts::least;
+use lines::parts::part;
+use lines::text::plain;
+use lines::text::refused_by;
 use record::Made;
 ghost use mathlib.Core.Path.{_≡_};
 ghost use Prim.Native.Nat.{_+_, _≤_, _<_};
 ghost use lib.ListN.{length, take, drop, replicate};
 ghost use Rattle.bench.specs.Makes.{filled, memoryMade, mapMade, registerAt, madeFrom, cardMade, makeText, makeSaid};
-ghost use Rattle.bench.specs.Writing.{Wrote};
+ghost use Rattle.lines.specs.Writing.{Wrote};
 
 // Every byte made one value.
 pub fn fill(bytes: &mut [u8], value: u8)
@@ -122,7 +122,7 @@ fn make_line(world: World, making: Making, made: Made, out: &mut [u8]) -> Said
             )
         }
         record::Making::Refused(refusal) => {
-            let wrote = refused_make(refusal, out);
+            let wrote = refused_by(refusal, out);
             ends(world, wrote)
         }
     }

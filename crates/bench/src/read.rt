@@ -1,6 +1,6 @@
 // What a record asks for: its numbers, high byte first, and whether all of it is there.
 //
-// Offers: `byte`, `two`, `three`, `four`, `part`; `read`.
+// Offers: `byte`, `two`, `three`, `four`; `read`.
 use crate::Asked;
 use crate::Calling;
 use crate::Looking;
@@ -42,21 +42,6 @@ pub fn four(script: &[u8], at: usize) -> u32
     ensures { λ r. ⌜ r ≡ four (now (script .entry)) at ⌝ }
 {
     (two(script, at) as u32) * 65536 + (two(script, at + 2) as u32)
-}
-
-// At most `n` bytes from a place on: as many as there are.
-pub fn part(bytes: &[u8], from: usize, n: usize) -> &[u8]
-    ensures part { λ r. ⌜ now r ≡ take n (drop from (now (bytes .entry))) ⌝ }
-    ensures within { λ r. ⌜ (length (now r) ≤ n) × (length (now r) ≤ length (now (bytes .entry))) ⌝ }
-{
-    let length = bytes.len();
-    if length <= from {
-        return &bytes[length..length];
-    }
-    if length - from <= n {
-        return &bytes[from..length];
-    }
-    &bytes[from..from + n]
 }
 
 // What is asked for, if the script has so many bytes.

@@ -6,11 +6,11 @@ use crate::Wiring;
 use crate::World;
 use crate::calls::space;
 use crate::make::fill;
-use crate::read::part;
 use crate::text::refused;
-use crate::text::say;
 use crate::worlds::goes_on;
 use base::Written;
+use lines::parts::part;
+use lines::text::say;
 use wire::Checked;
 ghost use mathlib.Core.Path.{_≡_};
 ghost use Prim.Native.Nat.{_+_, _*_, _≤_};
@@ -18,7 +18,7 @@ ghost use lib.ListN.{length};
 ghost use Rattle.bench.specs.Calls.{blank};
 ghost use Rattle.bench.specs.Wires.{writtenText, writeFrameText, writeBlockText, checkedText, wireText, usedWiring};
 ghost use Rattle.bench.specs.Worlds.{goneOn};
-ghost use Rattle.bench.specs.Writing.{Wrote};
+ghost use Rattle.lines.specs.Writing.{Wrote};
 
 // What a writer answered, with the whole output that it was lent.
 fn written_line(count: u64, word: &[u8], answer: Written, output: &[u8], out: &mut [u8]) -> usize

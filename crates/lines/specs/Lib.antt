@@ -1,1 +1,4 @@
+pub mod Lines
 pub mod Text
+pub mod Words
+pub mod Writing

@@ -1,9 +1,14 @@
-// The text that programs print, written into a lent output. No call has a `requires`: an output
-// that is too short is refused 6 and left as it was.
+// The text that programs print, written into a lent output. `hex` and `decimal` have no `requires`:
+// an output that is too short is refused 6 and left as it was. What whole lines are put together of
+// is in text.rt, parts of bytes in parts.rt.
 //
-// Offers: `hex`, `decimal`.
+// Offers: `hex`, `decimal`; `parts`, `text`.
+pub mod parts;
+pub mod text;
+
 use base::Refusal;
 use base::Written;
+use parts::front;
 ghost use mathlib.Core.Path.{_≡_};
 ghost use Prim.Native.Nat.{_<_, _≤_};
 ghost use lib.ListN.{drop};
@@ -74,12 +79,8 @@ fn put(bytes: &[u8], out: &mut [u8]) -> Written
     if out.len() < bytes.len() {
         return Written::Refused(Refusal::OutputShort);
     }
-    let mut i: usize = 0;
-    while i < bytes.len() {
-        out[i] = bytes[i];
-        i += 1;
-    }
-    Written::Bytes(i)
+    front(bytes, out);
+    Written::Bytes(bytes.len())
 }
 
 // The decimal digits of `n`, with no leading zeros.

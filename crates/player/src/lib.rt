@@ -1,12 +1,12 @@
-// A script played: each record carried out by `bench`, and its line written to standard output. No
-// contract can say what is written; all that is said of a line is said in `bench`.
+// A script for one card played: each record carried out by `bench`, and its line written to standard
+// output. No contract can say what is written; all that is said of a line is said in `bench`.
 //
 // Offers: `play`.
 use bench::Said;
 use bench::World;
-use libc::STDOUT_FILENO;
-ghost use Prim.Native.Nat.{_≤_};
-ghost use lib.ListN.{length};
+use lines::parts::part;
+use tape::behind;
+use tape::show;
 
 // A script, from buffers of zeros: room for the largest memory and map that a record lends, and for
 // the longest line.
@@ -27,21 +27,10 @@ fn run(script: &[u8], memory: &mut [u8], map: &mut [u8], out: &mut [u8]) {
         if said.stops {
             return;
         }
-        at = next(at, said.used, script.len());
+        at = behind(at, said.used, script.len());
         world = said.world;
         left -= 1;
     }
-}
-
-// The place behind a record, within the script.
-fn next(at: usize, used: usize, length: usize) -> usize
-    requires { ⌜ at ≤ length ⌝ }
-    ensures { λ r. ⌜ r ≤ length ⌝ }
-{
-    if length - at < used {
-        return length;
-    }
-    at + used
 }
 
 // One record, from a place of the script on, and its line.
@@ -52,13 +41,9 @@ fn turn(
     memory: &mut [u8],
     map: &mut [u8],
     out: &mut [u8],
-) -> Said
-    requires { ⌜ at ≤ length (now script) ⌝ }
-{
-    let said = bench::record(world, &script[at..], memory, map, out);
-    let n = said.wrote;
-    if n <= out.len() {
-        io::write_all(STDOUT_FILENO, &out[0..n]);
-    }
+) -> Said {
+    let rest = part(script, at, script.len());
+    let said = bench::record(world, rest, memory, map, out);
+    show(out, said.wrote);
     said
 }

@@ -2,7 +2,7 @@
 -- Assumes nothing.
 use borrow.Author.Needs.{needs}
 use borrow.Author.Tests.{le-leb, lt-leb}
-use Rattle.bench.proofs.Writing.{wrote-at}
+use Rattle.lines.proofs.Writing.{wrote-at}
 use Rattle.bench.specs.Record.{saidOf, memoryAfter, mapAfter, textOf}
 use Rattle.bench.proofs.record.Statement.{statement}
 use Rattle.bench.proofs.record.Tie as tie

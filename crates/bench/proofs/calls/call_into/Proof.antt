@@ -6,7 +6,7 @@ use borrow.Author.Needs.{needs}
 use denote.Ref.{now}
 use lib.ListN.{length}
 use Rattle.bench.proofs.Lending.{told-left, told-text}
-use Rattle.bench.proofs.Writing.{wrote-as}
+use Rattle.lines.proofs.Writing.{wrote-as}
 use Rattle.bench.proofs.calls.call_into.Statement.{statement}
 use Rattle.bench.proofs.calls.call_into.Tie as tie
 

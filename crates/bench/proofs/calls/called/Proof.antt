@@ -3,7 +3,7 @@
 use borrow.Author.Needs.{needs}
 use denote.Ref.{now}
 use Rattle.bench.proofs.Lending.{room-length, called-said, called-memory, called-map, called-text}
-use Rattle.bench.proofs.Writing.{wrote-as}
+use Rattle.lines.proofs.Writing.{wrote-as}
 use Rattle.bench.proofs.calls.called.Statement.{statement}
 use Rattle.bench.proofs.calls.called.Tie as tie
 

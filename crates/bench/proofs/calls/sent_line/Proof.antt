@@ -4,7 +4,7 @@ use mathlib.Core.Path.{ap, _∙_}
 use borrow.Author.Needs.{needs}
 use lib.ListN.{replicate}
 use Rattle.bench.proofs.Sending.{sent-text, unsent-text}
-use Rattle.bench.proofs.Writing.{wrote-as}
+use Rattle.lines.proofs.Writing.{wrote-as}
 use Rattle.bench.specs.Calls.{shownText, sentText}
 use Rattle.bench.proofs.calls.sent_line.Statement.{statement}
 use Rattle.bench.proofs.calls.sent_line.Tie as tie

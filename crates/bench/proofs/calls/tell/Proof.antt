@@ -1,7 +1,7 @@
 -- `bench::calls::tell` meets its contract: a line, and what is kept.
 -- Assumes nothing.
 use borrow.Author.Needs.{needs}
-use Rattle.bench.proofs.Writing.{wrote-line}
+use Rattle.lines.proofs.Writing.{wrote-line}
 use Rattle.bench.specs.Calls.{callLeft}
 use Rattle.bench.proofs.calls.tell.Statement.{statement}
 use Rattle.bench.proofs.calls.tell.Tie as tie

@@ -1,7 +1,7 @@
 -- `bench::carry::stop_line` meets its contract: each return is told why the script stops.
 -- Assumes nothing.
 use borrow.Author.Needs.{needs}
-use Rattle.bench.proofs.Writing.{wrote-none}
+use Rattle.lines.proofs.Writing.{wrote-none}
 use Rattle.bench.proofs.carry.stop_line.Statement.{statement}
 use Rattle.bench.proofs.carry.stop_line.Tie as tie
 

@@ -3,7 +3,7 @@
 use mathlib.Core.Path.{ap, _∙_}
 use Prim.Native.Nat.{ℕ}
 use borrow.Author.Needs.{needs}
-use Rattle.bench.proofs.Writing.{wrote-line}
+use Rattle.lines.proofs.Writing.{wrote-line}
 use Rattle.bench.specs.Worlds.{ended}
 use Rattle.bench.proofs.carry.stopped.Statement.{statement}
 use Rattle.bench.proofs.carry.stopped.Tie as tie

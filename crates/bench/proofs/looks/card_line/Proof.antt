@@ -1,7 +1,7 @@
 -- `bench::looks::card_line` meets its contract: four texts, one after the other.
 -- Assumes nothing.
 use borrow.Author.Needs.{needs}
-use Rattle.bench.proofs.Writing.{wrote-both}
+use Rattle.lines.proofs.Writing.{wrote-both}
 use Rattle.bench.specs.Looks.{cardText}
 use Rattle.bench.proofs.looks.card_line.Statement.{statement}
 use Rattle.bench.proofs.looks.card_line.Tie as tie

@@ -4,8 +4,8 @@ use mathlib.Core.Path.{ap}
 use Prim.Native.Nat.{ℕ}
 use native.Mathlib.Omega.{arith}
 use borrow.Author.Needs.{needs}
-use Rattle.bench.proofs.Writing.{wrote-as, wrote-both}
-use Rattle.bench.specs.Lines.{numberText, hexText}
+use Rattle.lines.proofs.Writing.{wrote-as, wrote-both}
+use Rattle.lines.specs.Lines.{numberText, hexText}
 use Rattle.bench.specs.Looks.{flagsText, fourBytes}
 use Rattle.bench.proofs.looks.flags_text.Statement.{statement}
 use Rattle.bench.proofs.looks.flags_text.Tie as tie

@@ -3,8 +3,8 @@
 use mathlib.Core.Path.{ap, _∙_}
 use native.Mathlib.Omega.{arith}
 use borrow.Author.Needs.{needs}
-use Rattle.bench.proofs.Writing.{wrote-as, wrote-both}
-use Rattle.bench.specs.Lines.{numberText}
+use Rattle.lines.proofs.Writing.{wrote-as, wrote-both}
+use Rattle.lines.specs.Lines.{numberText}
 use Rattle.bench.specs.Looks.{linkText}
 use Rattle.states.specs.States.{numberOf}
 use Rattle.bench.proofs.looks.link_text.Statement.{statement}

@@ -1,7 +1,7 @@
 -- `bench::looks::looked` meets its contract: a line, the map, and what is kept.
 -- Assumes nothing.
 use borrow.Author.Needs.{needs}
-use Rattle.bench.proofs.Writing.{wrote-line}
+use Rattle.lines.proofs.Writing.{wrote-line}
 use Rattle.bench.proofs.looks.looked.Statement.{statement}
 use Rattle.bench.proofs.looks.looked.Tie as tie
 

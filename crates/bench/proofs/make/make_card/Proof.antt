@@ -8,7 +8,7 @@ use denote.Ref.{now}
 use lib.ListN.{length, take}
 use Rattle.bench.proofs.Lending.{filled-length}
 use Rattle.bench.specs.Makes.{madeFrom, cardMade}
-use Rattle.bench.specs.Writing.{fronted}
+use Rattle.lines.specs.Writing.{fronted}
 use Rattle.bench.proofs.make.make_card.Statement.{statement}
 use Rattle.bench.proofs.make.make_card.Tie as tie
 

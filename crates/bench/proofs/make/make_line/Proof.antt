@@ -1,7 +1,7 @@
 -- `bench::make::make_line` meets its contract: each return is told what became of the make.
 -- Assumes nothing.
 use borrow.Author.Needs.{needs}
-use Rattle.bench.proofs.Writing.{wrote-line}
+use Rattle.lines.proofs.Writing.{wrote-line}
 use Rattle.bench.proofs.make.make_line.Statement.{statement}
 use Rattle.bench.proofs.make.make_line.Tie as tie
 
@@ -12,7 +12,7 @@ returns c =
 
 returns-2 : tie.Need-returns-2
 returns-2 c =
-    let w = c .before .before .before .refused-make .ensures in
+    let w = c .before .before .before .refused-by .ensures in
     (simp (c .before .before .before .before .before .before .outcome .given .1, c .ends .ensures, wrote-line w), rw (c .before .before .before .before .before .before .outcome .given .1, c .ends .ensures) w)
 
 pub make-line-spec : {M : Type 1} → statement M

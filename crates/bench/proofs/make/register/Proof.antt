@@ -5,7 +5,7 @@ use mathlib.Core.List.{List}
 use Prim.Native.Nat.{ℕ}
 use borrow.Author.Needs.{needs}
 use lib.ListN.{replicate}
-use Rattle.bench.specs.Writing.{fronted}
+use Rattle.lines.specs.Writing.{fronted}
 use Rattle.bench.proofs.make.register.Statement.{statement}
 use Rattle.bench.proofs.make.register.Tie as tie
 

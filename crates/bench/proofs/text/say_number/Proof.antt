@@ -1,7 +1,7 @@
 -- `bench::text::say_number` meets its contract: three texts, one after the other.
 -- Assumes nothing.
 use borrow.Author.Needs.{needs}
-use Rattle.bench.proofs.Writing.{wrote-both}
+use Rattle.lines.proofs.Writing.{wrote-both}
 use Rattle.bench.specs.Lines.{numberLine}
 use Rattle.bench.proofs.text.say_number.Statement.{statement}
 use Rattle.bench.proofs.text.say_number.Tie as tie

@@ -3,7 +3,7 @@
 use borrow.Author.Needs.{needs}
 use denote.Ref.{now}
 use Rattle.bench.proofs.Sending.{block-text}
-use Rattle.bench.proofs.Writing.{wrote-as}
+use Rattle.lines.proofs.Writing.{wrote-as}
 use Rattle.bench.proofs.wires.block_into.Statement.{statement}
 use Rattle.bench.proofs.wires.block_into.Tie as tie
 

@@ -2,7 +2,7 @@
 -- Assumes nothing.
 use borrow.Author.Needs.{needs}
 use Rattle.bench.proofs.Sending.{frame-text}
-use Rattle.bench.proofs.Writing.{wrote-as}
+use Rattle.lines.proofs.Writing.{wrote-as}
 use Rattle.bench.proofs.wires.frame_into.Statement.{statement}
 use Rattle.bench.proofs.wires.frame_into.Tie as tie
 

@@ -1,7 +1,7 @@
 -- `bench::wires::wired` meets its contract: a line, and what is kept.
 -- Assumes nothing.
 use borrow.Author.Needs.{needs}
-use Rattle.bench.proofs.Writing.{wrote-line}
+use Rattle.lines.proofs.Writing.{wrote-line}
 use Rattle.bench.proofs.wires.wired.Statement.{statement}
 use Rattle.bench.proofs.wires.wired.Tie as tie
 

@@ -6,7 +6,7 @@ use native.Mathlib.Omega.{arith}
 use borrow.Author.Needs.{needs}
 use denote.Ref.{now}
 use Rattle.bench.proofs.Lending.{room-length}
-use Rattle.bench.proofs.Writing.{wrote-as}
+use Rattle.lines.proofs.Writing.{wrote-as}
 use Rattle.bench.specs.Calls.{blank}
 use Rattle.bench.specs.Wires.{writeBlockText}
 use Rattle.bench.proofs.wires.write_block.Statement.{statement}

@@ -5,7 +5,7 @@ use Prim.Native.Nat.{ℕ}
 use native.Mathlib.Omega.{arith}
 use borrow.Author.Needs.{needs}
 use Rattle.bench.proofs.Lending.{room-length}
-use Rattle.bench.proofs.Writing.{wrote-as}
+use Rattle.lines.proofs.Writing.{wrote-as}
 use Rattle.bench.specs.Calls.{blank}
 use Rattle.bench.specs.Wires.{writeFrameText}
 use Rattle.bench.proofs.wires.write_frame.Statement.{statement}

@@ -1,0 +1,28 @@
+-- `dock::carry::card_of` meets its contract: the registers, an erased memory and a map of one entry.
+-- Assumes nothing.
+use mathlib.Core.Path.{ap, _∙_}
+use mathlib.Core.List.{List, [], _∷_}
+use Prim.Native.Nat.{ℕ}
+use Rattle.record.specs.Making.{madeOf}
+use Rattle.record.specs.declared.Made.{Made}
+use Rattle.dock.specs.Cards.{dockCsd, dockOcr, madeWith, cardOf}
+use borrow.Author.Needs.{needs}
+use Rattle.dock.proofs.carry.card_of.Statement.{statement}
+use Rattle.dock.proofs.carry.card_of.Tie as tie
+
+returns : tie.Need-returns
+unfolding cardOf madeWith
+returns c =
+    ap (λ (m : Made). m .card)
+    (c .before .make .ensures ∙ ap (λ (cid : List ℕ). madeOf cid dockCsd dockOcr [] 8192 (0 ∷ [])) (c .before .before .before .before .before .identifier .ensures))
+
+pub card-of-spec : {M : Type 1} → statement M
+card-of-spec =
+    tie.close
+    (tie.spec
+    (λ c κs. search needs)
+    (λ c. search needs)
+    (λ c. search needs)
+    (λ c. search needs)
+    (λ c κs. search needs)
+    returns)

@@ -1,0 +1,28 @@
+-- `dock::carry::framed` meets its contract: a line, and what is kept: the bus and one frame more.
+-- Assumes nothing.
+use Rattle.dock.proofs.Laws.{gone-long}
+use Rattle.lines.proofs.Writing.{wrote-line}
+use Rattle.dock.specs.Record.{frameText, frameSaid}
+use borrow.Author.Needs.{needs}
+use Rattle.dock.proofs.carry.framed.Statement.{statement}
+use Rattle.dock.proofs.carry.framed.Tie as tie
+
+returns : tie.Need-returns
+unfolding frameText frameSaid
+returns c =
+    let w = c .before .before .shown-line .ensures in
+    let n = c .before .before .before .before .before .before .before .before .before .next .ensures in
+    let p = c .before .before .before .before .before .before .before .before .part .ensures .0 in
+    let f = c .before .before .before .before .before .before .frame .ensures in
+    (rw (← n, ← p, ← f) (gone-long (wrote-line w)), rw (← n, ← p, ← f) w)
+
+pub framed-spec : {M : Type 1} → statement M
+framed-spec =
+    tie.close
+    (tie.spec
+    (λ c κs. search needs)
+    (λ c κs. search needs)
+    (λ c κs. search needs)
+    (λ c κs. search needs)
+    (λ c. search needs)
+    returns)

@@ -1,0 +1,5 @@
+pub mod Cards
+pub mod Printing
+pub mod Reading
+pub mod Record
+pub mod Transcript

@@ -1,0 +1,20 @@
+-- A whole script, bytes in and text out: the lines of its records, one after the other, until one stops.
+-- Assumes nothing.
+use mathlib.Core.Bool.{Bool, true, false}
+use mathlib.Core.List.{List, [], _++_}
+use Prim.Native.Nat.{ℕ, zero, suc}
+use lib.ListN.{length, drop}
+use Rattle.dock.specs.Record.{freshWorld, roomy, textOf, saidOf}
+use Rattle.dock.specs.declared.Said.{Said}
+use Rattle.dock.specs.declared.World.{World}
+
+-- at most n records, the first of which left this
+unfoldable pub records : ℕ → World → List ℕ → List ℕ
+records zero w s = []
+records (suc n) w s =
+    textOf w s roomy
+    ++ elim (saidOf w s roomy .stops) [ true ↦ [] | false ↦ records n (saidOf w s roomy .world) (drop (saidOf w s roomy .used) s) ]
+
+-- each record takes a byte or more, and the end of the script is one too
+unfoldable pub transcript : List ℕ → List ℕ
+transcript s = records (suc (length s)) freshWorld s

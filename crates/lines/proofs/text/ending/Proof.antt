@@ -1,0 +1,30 @@
+-- `lines::text::ending` meets its contract: each return is told its test.
+-- Assumes nothing.
+use borrow.Author.Needs.{needs}
+use borrow.Author.Tests.{eq-eqb, ne-eqb}
+use Rattle.lines.proofs.Writing.{wrote-both}
+use Rattle.lines.specs.Lines.{endText}
+use Rattle.lines.proofs.text.ending.Statement.{statement}
+use Rattle.lines.proofs.text.ending.Tie as tie
+
+returns : tie.Need-returns
+unfolding endText
+returns c = rw (eq-eqb _ _ (c .before .before .before .before .before .if1 .taken)) (c .before .before .put .ensures)
+
+returns-2 : tie.Need-returns-2
+unfolding endText
+returns-2 c = rw (ne-eqb _ _ (c .before .before .before .before .before .before .before .before .before .if1 .left)) (wrote-both (c .before .before .before .before .before .before .before .hexed .ensures .0) (c .before .before .put2 .ensures))
+
+pub ending-spec : {M : Type 1} → statement M
+ending-spec =
+    tie.close
+    (tie.spec
+    (λ c. search needs)
+    (λ c κs. search needs)
+    (λ c. search needs)
+    returns
+    (λ c κs. search needs)
+    (λ c. search needs)
+    (λ c κs. search needs)
+    (λ c. search needs)
+    returns-2)

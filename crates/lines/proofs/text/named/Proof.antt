@@ -1,0 +1,18 @@
+-- `lines::text::named` meets its contract: three texts, one after the other.
+-- Assumes nothing.
+use borrow.Author.Needs.{needs}
+use Rattle.lines.proofs.Writing.{wrote-both}
+use Rattle.lines.specs.Lines.{namedLine}
+use Rattle.lines.proofs.text.named.Statement.{statement}
+use Rattle.lines.proofs.text.named.Tie as tie
+
+returns : tie.Need-returns
+unfolding namedLine
+returns c =
+    let w = c .before .before .before .before .before .before .before .before .before .before .before .put .ensures in
+    let n = c .before .before .before .before .before .before .before .number .ensures in
+    wrote-both (wrote-both w (n .0)) (c .before .before .put2 .ensures)
+
+pub named-spec : {M : Type 1} → statement M
+named-spec =
+    tie.close (tie.spec (λ c κs. search needs) (λ c κs. search needs) (λ c. search needs) (λ c κs. search needs) (λ c. search needs) returns)

@@ -1,0 +1,18 @@
+// Nights: every script of data/ that its arguments name, played as busline plays it, under a heading.
+use lines::parts::part;
+
+fn main() {
+    let n = os::arg_count();
+    let mut i: usize = 1;
+    while i < n {
+        script(i);
+        i += 1;
+    }
+}
+
+// The script that an argument names.
+fn script(i: usize) {
+    let mut bytes = [0u8; 8192];
+    let n = tape::named(i, &mut bytes);
+    busplayer::play(part(&bytes, 0, n));
+}

@@ -1,0 +1,76 @@
+// What the programs that play scripts share: a script read from standard input, or from a file that
+// an argument names; the place behind a record; a line written to standard output. No contract can
+// say what is read or written: what is said of a script is said in `bench` and `dock`.
+//
+// A script in a file is text: pairs of hex digits; `#` begins a comment, up to the line's end; what
+// is neither stands between bytes.
+//
+// Offers: `input`, `named`; `behind`, `show`.
+mod hexes;
+
+use hexes::decode;
+use libc::STDIN_FILENO;
+use libc::STDOUT_FILENO;
+use lines::parts::least;
+use lines::parts::part;
+ghost use mathlib.Core.Path.{_≡_};
+ghost use Prim.Native.Nat.{_+_, _≤_, min};
+ghost use lib.ListN.{length};
+
+// A script from standard input: how many bytes. One that the buffer can't hold would be taken for a
+// whole one, so it is told of, and none of it is given.
+pub fn input(bytes: &mut [u8]) -> usize
+    ensures within { λ r. ⌜ r ≤ length (now (bytes .entry)) ⌝ }
+{
+    let n = io::read_full(STDIN_FILENO, bytes);
+    let mut more = [0u8; 1];
+    if 0 < io::read_full(STDIN_FILENO, &mut more) {
+        io::write_all(STDOUT_FILENO, b"the script is too long\n");
+        return 0;
+    }
+    least(n, bytes.len())
+}
+
+// A script from the file that an argument names, under a heading: how many bytes.
+pub fn named(i: usize, bytes: &mut [u8]) -> usize
+    ensures within { λ r. ⌜ r ≤ length (now (bytes .entry)) ⌝ }
+{
+    let mut name = [0u8; 64];
+    let n = os::arg(i, &mut name);
+    io::write_all(STDOUT_FILENO, b"== ");
+    io::write_all(STDOUT_FILENO, &name[..n]);
+    io::write_all(STDOUT_FILENO, b"\n");
+    let file = os::open_read(&name[..n]);
+    if file < 0 {
+        os::fail(&name[..n]);
+        return 0;
+    }
+    let k = read(file, bytes);
+    libc::close(file);
+    least(k, bytes.len())
+}
+
+fn read(file: i32, bytes: &mut [u8]) -> usize {
+    let mut text = io::large_buffer();
+    let n = io::read_full(file, &mut text);
+    decode(&text[..n], bytes)
+}
+
+// The place behind a record that used so many bytes, within the script.
+pub fn behind(at: usize, used: usize, length: usize) -> usize
+    ensures answer { λ r. ⌜ r ≡ min (at + used) length ⌝ }
+{
+    if length <= at {
+        return length;
+    }
+    if length - at <= used {
+        return length;
+    }
+    at + used
+}
+
+// The bytes at the front of `out`, written to standard output.
+pub fn show(out: &[u8], n: usize) {
+    let text = part(out, 0, n);
+    io::write_all(STDOUT_FILENO, text);
+}
