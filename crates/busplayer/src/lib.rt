@@ -7,9 +7,14 @@ use dock::World;
 use lines::parts::part;
 use tape::behind;
 use tape::show;
+ghost use Prim.Native.Nat.{_≤_};
+ghost use lib.ListN.{length};
 
-// Record by record. Each takes a byte or more, so that there are no more than bytes.
-pub fn play(script: &[u8]) {
+// Record by record. Each takes a byte or more, so a script has as many turns as bytes; the answer is
+// how many were left.
+pub fn play(script: &[u8]) -> usize
+    ensures within { λ r. ⌜ r ≤ length (now (script .entry)) ⌝ }
+{
     let mut out = [0u8; 64];
     let mut world = dock::fresh();
     let mut at: usize = 0;
@@ -17,12 +22,13 @@ pub fn play(script: &[u8]) {
     while 0 < left {
         let said = turn(world, script, at, &mut out);
         if said.stops {
-            return;
+            return left;
         }
         at = behind(at, said.used, script.len());
         world = said.world;
         left -= 1;
     }
+    left
 }
 
 // One record, from a place of the script on, and its line.

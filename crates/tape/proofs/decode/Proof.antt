@@ -1,11 +1,11 @@
--- `tape::hexes::decode` is safe and ends: each turn takes one character.
+-- `tape::decode` is safe and ends: each turn takes one character.
 -- Assumes nothing.
 use mathlib.Core.Path.{_≡_, refl}
 use Prim.Native.Nat.{_≤_, _-_}
 use borrow.Author.Needs.{needs}
 use lib.ListN.{length}
-use Rattle.tape.proofs.hexes.decode.Statement.{statement}
-use Rattle.tape.proofs.hexes.decode.Tie as tie
+use Rattle.tape.proofs.decode.Statement.{statement}
+use Rattle.tape.proofs.decode.Tie as tie
 
 abbrev Inv-loop : tie.InvT-loop
 Inv-loop text out₀ decoded₀ i₀ out decoded i = (i ≤ length text) × (length out ≡ length out₀)
