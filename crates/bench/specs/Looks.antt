@@ -11,6 +11,7 @@ use Rattle.lines.specs.Words.{cardWord}
 use Rattle.bench.specs.Worlds.{withLent, ownMemory, ownMap}
 use Rattle.bench.specs.declared.Looking.{Looking}
 use Rattle.bench.specs.declared.Looking.the-variants.{Card, Memory, Lend, Poke}
+use Rattle.bench.specs.declared.Sizes.{Sizes}
 use Rattle.bench.specs.declared.World.{World}
 use Rattle.record.specs.declared.Link.{Link}
 use Rattle.states.specs.States.{columnOf, numberOf}
@@ -60,11 +61,15 @@ mapLooked w (Memory from n) map = map
 mapLooked w (Lend sizes) map = map
 mapLooked w (Poke entry value) map = poked w entry value map
 
+-- | 09 | "from now on the calls are lent M' bytes of memory and m' of map" |
+abbrev pub lentLooked : Looking → Sizes → Sizes
+lentLooked Card lent = lent
+lentLooked (Memory from n) lent = lent
+lentLooked (Lend sizes) lent = sizes
+lentLooked (Poke entry value) lent = lent
+
 abbrev pub worldLooked : World → Looking → World
-worldLooked w Card = w
-worldLooked w (Memory from n) = w
-worldLooked w (Lend sizes) = withLent w sizes
-worldLooked w (Poke entry value) = w
+worldLooked w looking = withLent w (lentLooked looking (w .lent))
 
 abbrev pub usedLooked : Looking → ℕ
 usedLooked Card = 1

@@ -46,6 +46,10 @@ cardMade m s memory map = madeFrom m s (length (take (m .memory) memory)) (take 
 abbrev pub sizesMade : Making → Sizes
 sizesMade m = record { memory = m .memory; map = m .map }
 
+-- the new card in its world: no record was carried out since
+unfoldable pub madeWorld : Making → Card → World
+madeWorld m c = record { card = c; made = true; own = sizesMade m; lent = sizesMade m; count = 0 }
+
 -- the line: `made` or `refused R`
 abbrev pub makeText : Outcome → List ℕ
 makeText Done = plainLine madeWord
@@ -53,7 +57,5 @@ makeText (Refused refusal) = refusalLine refusal
 
 -- "A refused make prints `refused R` and stops"
 abbrev pub makeSaid : World → Making → Card → Outcome → Said
-makeSaid w m card Done =
-    goneOn (record { card = card; made = true; own = sizesMade m; lent = sizesMade m; count = 0 }) (m .map + 43 + m .password)
-    (length (makeText Done))
+makeSaid w m card Done = goneOn (madeWorld m card) (m .map + 43 + m .password) (length (makeText Done))
 makeSaid w m card (Refused refusal) = ended w (length (makeText (Refused refusal)))

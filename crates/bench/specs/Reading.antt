@@ -8,8 +8,9 @@ use lib.Dec.{eqb, leb}
 use lib.ListN.{length, getD}
 use Rattle.base.specs.Choice.{pick, unless}
 use Rattle.bench.specs.declared.Asked.{Asked}
-use Rattle.bench.specs.declared.Asked.the-variants.{Stop, Make, Call, Look, Wire}
+use Rattle.bench.specs.declared.Asked.the-variants.{Stop, Make, Go}
 use Rattle.bench.specs.declared.Calling.the-variants.{Frame, BlockIn, BlockOut, WorkDone, PowerOn}
+use Rattle.bench.specs.declared.Going.the-variants.{Call, Look, Wire}
 use Rattle.bench.specs.declared.Looking.the-variants.{Card, Memory, Lend, Poke}
 use Rattle.bench.specs.declared.Stop.the-variants.{Ended, NoCard, BadKind, Cut, TooBig}
 use Rattle.bench.specs.declared.Wiring.the-variants.{Frame as WireFrame, Block, Check}
@@ -53,7 +54,7 @@ makeAsked s = whole 4 s (sized (three s 1) (makingAsked (three s 1) s))
 
 -- | 02 | L (1), L bytes |
 unfoldable pub frameAsked : List ℕ → Asked
-frameAsked s = whole 2 s (whole (byteAt s 1 + 2) s (Call (Frame (byteAt s 1))))
+frameAsked s = whole 2 s (whole (byteAt s 1 + 2) s (Go (Call (Frame (byteAt s 1)))))
 
 -- L (2), L bytes, and so many bytes more
 unfoldable pub countedAsked : List ℕ → ℕ → Asked → Asked
@@ -61,35 +62,35 @@ countedAsked s more then = whole 3 s (within (two s 1) (whole (two s 1 + 3 + mor
 
 -- | 03 | L (2), L bytes |
 abbrev pub blockInAsked : List ℕ → Asked
-blockInAsked s = countedAsked s 0 (Call (BlockIn (two s 1)))
+blockInAsked s = countedAsked s 0 (Go (Call (BlockIn (two s 1))))
 
 -- | 04 | L (2) |
 unfoldable pub blockOutAsked : List ℕ → Asked
-blockOutAsked s = whole 3 s (within (two s 1) (Call (BlockOut (two s 1))))
+blockOutAsked s = whole 3 s (within (two s 1) (Go (Call (BlockOut (two s 1)))))
 
 -- | 08 | A (3), L (2) |
 unfoldable pub memoryAsked : List ℕ → Asked
-memoryAsked s = whole 6 s (within (two s 4) (Look (Memory (three s 1) (two s 4))))
+memoryAsked s = whole 6 s (within (two s 4) (Go (Look (Memory (three s 1) (two s 4)))))
 
 -- | 09 | M' (3), m' (1) |
 unfoldable pub lendAsked : List ℕ → Asked
-lendAsked s = whole 5 s (Look (Lend (record { memory = three s 1; map = byteAt s 4 })))
+lendAsked s = whole 5 s (Go (Look (Lend (record { memory = three s 1; map = byteAt s 4 }))))
 
 -- | 0A | i (1), v (1) |
 unfoldable pub pokeAsked : List ℕ → Asked
-pokeAsked s = whole 3 s (Look (Poke (byteAt s 1) (byteAt s 2)))
+pokeAsked s = whole 3 s (Go (Look (Poke (byteAt s 1) (byteAt s 2))))
 
 -- | 0B | index (1), argument (4), L (1) |
 unfoldable pub writeFrameAsked : List ℕ → Asked
-writeFrameAsked s = whole 7 s (Wire (WireFrame (byteAt s 1) (four s 2) (byteAt s 6)))
+writeFrameAsked s = whole 7 s (Go (Wire (WireFrame (byteAt s 1) (four s 2) (byteAt s 6))))
 
 -- | 0C | L (2), L bytes, O (2) |
 unfoldable pub writeBlockAsked : List ℕ → Asked
-writeBlockAsked s = countedAsked s 2 (within (two s (two s 1 + 3)) (Wire (Block (two s 1) (two s (two s 1 + 3)))))
+writeBlockAsked s = countedAsked s 2 (within (two s (two s 1 + 3)) (Go (Wire (Block (two s 1) (two s (two s 1 + 3))))))
 
 -- | 0D | L (2), L bytes |
 abbrev pub checkAsked : List ℕ → Asked
-checkAsked s = countedAsked s 0 (Wire (Check (two s 1)))
+checkAsked s = countedAsked s 0 (Go (Wire (Check (two s 1))))
 
 -- the kinds from 08 on; "A second 01, or any other kind, prints `bad kind` and stops"
 unfoldable pub shownAsked : ℕ → List ℕ → Asked
@@ -107,9 +108,9 @@ moreAsked kind s =
     pick (eqb kind 0x02) (frameAsked s)
     (pick (eqb kind 0x03) (blockInAsked s)
     (pick (eqb kind 0x04) (blockOutAsked s)
-    (pick (eqb kind 0x05) (Call WorkDone)
-    (pick (eqb kind 0x06) (Call PowerOn)
-    (pick (eqb kind 0x07) (Look Card) (shownAsked kind s))))))
+    (pick (eqb kind 0x05) (Go (Call WorkDone))
+    (pick (eqb kind 0x06) (Go (Call PowerOn))
+    (pick (eqb kind 0x07) (Go (Look Card)) (shownAsked kind s))))))
 
 -- "An empty script prints nothing. A first record of another kind than 01 prints `no card` and stops"
 unfoldable pub askedOf : Bool → List ℕ → Asked

@@ -16,6 +16,8 @@ use Rattle.lines.specs.Words.{badKindWord, cutWord}
 use Rattle.bench.specs.Worlds.{counted, goneOn, ended}
 use Rattle.bench.specs.declared.Asked.{Asked}
 use Rattle.bench.specs.declared.Asked.the-variants as asked
+use Rattle.bench.specs.declared.Going.{Going}
+use Rattle.bench.specs.declared.Going.the-variants.{Call, Look, Wire}
 use Rattle.bench.specs.declared.Said.{Said}
 use Rattle.bench.specs.declared.Stop.{Stop}
 use Rattle.bench.specs.declared.Stop.the-variants.{Ended, NoCard, BadKind, Cut, TooBig}
@@ -29,40 +31,49 @@ stopText BadKind = plainLine badKindWord
 stopText Cut = plainLine cutWord
 stopText TooBig = plainLine tooBigWord
 
--- the line of a record that asks for this
+-- a record of a made card: the line, the buffers afterwards, and what is kept
+unfoldable pub goingText : World → Going → List ℕ → List ℕ → List ℕ → List ℕ
+goingText w (Call calling) s memory map = callText w (calledBy calling) (inputOf calling s) memory map (roomOf calling)
+goingText w (Look looking) s memory map = lookText w looking memory map
+goingText w (Wire wiring) s memory map = wireText (w .count) wiring s
+
+unfoldable pub goingMemory : World → Going → List ℕ → List ℕ → List ℕ → List ℕ
+goingMemory w (Call calling) s memory map = memoryLent w (calledBy calling) (inputOf calling s) memory map
+goingMemory w (Look looking) s memory map = memory
+goingMemory w (Wire wiring) s memory map = memory
+
+unfoldable pub goingMap : World → Going → List ℕ → List ℕ → List ℕ → List ℕ
+goingMap w (Call calling) s memory map = mapLent w (calledBy calling) (inputOf calling s) memory map
+goingMap w (Look looking) s memory map = mapLooked w looking map
+goingMap w (Wire wiring) s memory map = map
+
+unfoldable pub goingSaid : World → Going → List ℕ → List ℕ → List ℕ → Said
+goingSaid w (Call calling) s memory map = callSaid w (calledBy calling) (inputOf calling s) (usedBy calling) memory map (roomOf calling)
+goingSaid w (Look looking) s memory map = goneOn (worldLooked w looking) (usedLooked looking) (length (lookText w looking memory map))
+goingSaid w (Wire wiring) s memory map = goneOn w (usedWiring wiring) (length (wireText (w .count) wiring s))
+
+-- any record: its line
 unfoldable pub askedText : World → Asked → List ℕ → List ℕ → List ℕ → List ℕ
 askedText w (asked.Stop stop) s memory map = stopText stop
 askedText w (asked.Make making) s memory map = makeText (cardMade making s memory map .making)
-askedText w (asked.Call calling) s memory map =
-    callText (counted w) (calledBy calling) (inputOf calling s) memory map (roomOf calling)
-askedText w (asked.Look looking) s memory map = lookText (counted w) looking memory map
-askedText w (asked.Wire wiring) s memory map = wireText (counted w .count) wiring s
+askedText w (asked.Go going) s memory map = goingText (counted w) going s memory map
 
 -- the buffers afterwards
 unfoldable pub askedMemory : World → Asked → List ℕ → List ℕ → List ℕ → List ℕ
 askedMemory w (asked.Stop stop) s memory map = memory
 askedMemory w (asked.Make making) s memory map = memoryMade making memory
-askedMemory w (asked.Call calling) s memory map = memoryLent (counted w) (calledBy calling) (inputOf calling s) memory map
-askedMemory w (asked.Look looking) s memory map = memory
-askedMemory w (asked.Wire wiring) s memory map = memory
+askedMemory w (asked.Go going) s memory map = goingMemory (counted w) going s memory map
 
 unfoldable pub askedMap : World → Asked → List ℕ → List ℕ → List ℕ → List ℕ
 askedMap w (asked.Stop stop) s memory map = map
 askedMap w (asked.Make making) s memory map = mapMade making s map
-askedMap w (asked.Call calling) s memory map = mapLent (counted w) (calledBy calling) (inputOf calling s) memory map
-askedMap w (asked.Look looking) s memory map = mapLooked (counted w) looking map
-askedMap w (asked.Wire wiring) s memory map = map
+askedMap w (asked.Go going) s memory map = goingMap (counted w) going s memory map
 
 -- what is kept, how much of the script was used and of the output written, and whether the script stops
 unfoldable pub askedSaid : World → Asked → List ℕ → List ℕ → List ℕ → Said
 askedSaid w (asked.Stop stop) s memory map = ended w (length (stopText stop))
-askedSaid w (asked.Make making) s memory map =
-    makeSaid w making (cardMade making s memory map .card) (cardMade making s memory map .making)
-askedSaid w (asked.Call calling) s memory map =
-    callSaid (counted w) (calledBy calling) (inputOf calling s) (usedBy calling) memory map (roomOf calling)
-askedSaid w (asked.Look looking) s memory map =
-    goneOn (worldLooked (counted w) looking) (usedLooked looking) (length (lookText (counted w) looking memory map))
-askedSaid w (asked.Wire wiring) s memory map = goneOn (counted w) (usedWiring wiring) (length (wireText (counted w .count) wiring s))
+askedSaid w (asked.Make making) s memory map = makeSaid w making (cardMade making s memory map .card) (cardMade making s memory map .making)
+askedSaid w (asked.Go going) s memory map = goingSaid (counted w) going s memory map
 
 -- room for the longest line: an output without it is left alone, and the script stops
 abbrev pub roomy : ℕ

@@ -6,8 +6,11 @@ use crate::Said;
 use crate::World;
 use crate::make::fill;
 use crate::text::refused;
+use crate::text::refused_call;
 use crate::text::say_number;
+use crate::text::say_word;
 use crate::worlds::goes_on;
+use crate::worlds::with_card;
 use base::Written;
 use card::Call;
 use card::Outcome;
@@ -55,7 +58,7 @@ fn shown(count: u64, bytes: &[u8], out: &mut [u8]) -> usize
     ensures { λ r. ⌜ Wrote (now (out .entry)) (now (out .exit)) 0 r (shownText count (now (bytes .entry))) ⌝ }
 {
     if bytes.len() == 0 {
-        return say(count, b"silent", b"", out);
+        return say_word(count, b"silent", out);
     }
     say(count, b"line", bytes, out)
 }
@@ -69,7 +72,7 @@ fn sent_line(count: u64, registers: Registers, sent: Sent, out: &mut [u8]) -> us
     let written = card::write_sent(registers, sent, &mut bytes);
     match written {
         Written::Bytes(n) => shown(count, part(&bytes, 0, n), out),
-        Written::Refused(refusal) => refused(count, refusal, b"", out),
+        Written::Refused(refusal) => refused_call(count, refusal, out),
     }
 }
 
@@ -82,7 +85,7 @@ fn frame_line(count: u64, registers: Registers, reply: Reply, out: &mut [u8]) ->
     match outcome {
         Outcome::Done => sent_line(count, registers, sent, out),
         Outcome::Wrote(_) => sent_line(count, registers, sent, out),
-        Outcome::Refused(refusal) => refused(count, refusal, b"", out),
+        Outcome::Refused(refusal) => refused_call(count, refusal, out),
     }
 }
 
@@ -91,9 +94,9 @@ fn taken_line(count: u64, outcome: Outcome, out: &mut [u8]) -> usize
     ensures { λ r. ⌜ Wrote (now (out .entry)) (now (out .exit)) 0 r (takenText count outcome) ⌝ }
 {
     match outcome {
-        Outcome::Done => say(count, b"taken", b"", out),
-        Outcome::Wrote(_) => say(count, b"taken", b"", out),
-        Outcome::Refused(refusal) => refused(count, refusal, b"", out),
+        Outcome::Done => say_word(count, b"taken", out),
+        Outcome::Wrote(_) => say_word(count, b"taken", out),
+        Outcome::Refused(refusal) => refused_call(count, refusal, out),
     }
 }
 
@@ -125,8 +128,8 @@ fn reply_line(
         Call::Frame => frame_line(count, registers, reply, out),
         Call::BlockIn => taken_line(count, outcome, out),
         Call::BlockOut => block_line(count, outcome, output, out),
-        Call::WorkDone => say(count, b"done", b"", out),
-        Call::PowerOn => say(count, b"power", b"", out),
+        Call::WorkDone => say_word(count, b"done", out),
+        Call::PowerOn => say_word(count, b"power", out),
     }
 }
 
@@ -143,17 +146,9 @@ fn tell(
     ensures answer { λ r. ⌜ r ≡ callLeft world call used stepped (now (output .entry)) ⌝ }
     ensures text { λ r. ⌜ Wrote (now (out .entry)) (now (out .exit)) 0 (r .wrote) (replyText (world .count) call (world .card .registers) (stepped .reply .outcome) (stepped .reply .sent) (now (output .entry))) ⌝ }
 {
-    let next = stepped.card;
     let reply = stepped.reply;
     let wrote = reply_line(world.count, call, world.card.registers, reply, output, out);
-    goes_on(
-        World {
-            card: next,
-            ..world
-        },
-        used,
-        wrote,
-    )
+    goes_on(with_card(world, stepped.card), used, wrote)
 }
 
 // A call with its input, lent an output that is made A5 first: its line, and what it leaves.

@@ -1,7 +1,8 @@
 // What a record asks for, carried out: a function for each group of kinds.
 //
-// Offers: `carry`.
+// Offers: `obey`.
 use crate::Asked;
+use crate::Going;
 use crate::Said;
 use crate::Stop;
 use crate::World;
@@ -15,7 +16,7 @@ use lines::text::plain;
 ghost use mathlib.Core.Path.{_≡_};
 ghost use Prim.Native.Nat.{_≤_};
 ghost use lib.ListN.{length};
-ghost use Rattle.bench.specs.Record.{stopText, askedText, askedMemory, askedMap, askedSaid};
+ghost use Rattle.bench.specs.Record.{stopText, goingText, goingMemory, goingMap, goingSaid, askedText, askedMemory, askedMap, askedSaid};
 ghost use Rattle.bench.specs.Worlds.{ended};
 ghost use Rattle.lines.specs.Writing.{Wrote};
 
@@ -32,7 +33,28 @@ fn stop_line(stop: Stop, out: &mut [u8]) -> usize
     }
 }
 
-pub fn carry(
+fn carry(
+    world: World,
+    going: Going,
+    script: &[u8],
+    memory: &mut [u8],
+    map: &mut [u8],
+    out: &mut [u8],
+) -> Said
+    requires { ⌜ 131136 ≤ length (now out) ⌝ }
+    ensures answer { λ r. ⌜ r ≡ goingSaid world going (now (script .entry)) (now (memory .entry)) (now (map .entry)) ⌝ }
+    ensures memory { λ _. ⌜ now (memory .exit) ≡ goingMemory world going (now (script .entry)) (now (memory .entry)) (now (map .entry)) ⌝ }
+    ensures map { λ _. ⌜ now (map .exit) ≡ goingMap world going (now (script .entry)) (now (memory .entry)) (now (map .entry)) ⌝ }
+    ensures text { λ r. ⌜ Wrote (now (out .entry)) (now (out .exit)) 0 (r .wrote) (goingText world going (now (script .entry)) (now (memory .entry)) (now (map .entry))) ⌝ }
+{
+    match going {
+        Going::Call(calling) => called(world, calling, script, memory, map, out),
+        Going::Look(looking) => looked(world, looking, memory, map, out),
+        Going::Wire(wiring) => wired(world, wiring, script, out),
+    }
+}
+
+pub fn obey(
     world: World,
     asked: Asked,
     script: &[u8],
@@ -49,9 +71,7 @@ pub fn carry(
     match asked {
         Asked::Stop(stop) => stopped(world, stop, out),
         Asked::Make(making) => make(world, making, script, memory, map, out),
-        Asked::Call(calling) => called(counted(world), calling, script, memory, map, out),
-        Asked::Look(looking) => looked(counted(world), looking, memory, map, out),
-        Asked::Wire(wiring) => wired(counted(world), wiring, script, out),
+        Asked::Go(going) => carry(counted(world), going, script, memory, map, out),
     }
 }
 

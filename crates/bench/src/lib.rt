@@ -17,12 +17,9 @@ mod text;
 mod wires;
 mod worlds;
 
-use carry::carry;
+use carry::obey;
 use read::read;
 use record::Card;
-use record::Link;
-use record::Registers;
-use states::State;
 use worlds::ends;
 ghost use mathlib.Core.Path.{_≡_};
 ghost use mathlib.Core.List.{_++_};
@@ -96,35 +93,27 @@ pub enum Wiring {
     Check(u16),
 }
 
-// What a record asks for.
-pub enum Asked {
-    Stop(Stop),
-    Make(Making),
+// What a record of a made card asks for.
+pub enum Going {
     Call(Calling),
     Look(Looking),
     Wire(Wiring),
 }
 
-// Before a script: no card, and nothing lent.
+// What a record asks for.
+pub enum Asked {
+    Stop(Stop),
+    Make(Making),
+    Go(Going),
+}
+
+// Before a script: no card, for which the record of a refused make stands, and nothing lent.
 pub fn fresh() -> World
     ensures answer { λ r. ⌜ r ≡ freshWorld ⌝ }
 {
-    let card = Card {
-        registers: Registers {
-            cid: [0; 16],
-            csd: [0; 16],
-            ocr: 0,
-            groups: 0,
-        },
-        lock: lock::no_password(),
-        link: Link {
-            state: State::Ina,
-            address: 0,
-            length: 0,
-            errors: status::none(),
-            tags: tags::no_tags(),
-        },
-    };
+    let zeros = [0u8; 16];
+    let made = record::make(zeros, zeros, 0, b"", b"", b"");
+    let card = made.card;
     World {
         card,
         made: false,
@@ -151,5 +140,5 @@ pub fn record(
         return ends(world, 0);
     }
     let asked = read(world.made, script);
-    carry(world, asked, script, memory, map, out)
+    obey(world, asked, script, memory, map, out)
 }

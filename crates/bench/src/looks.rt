@@ -3,8 +3,11 @@
 // Offers: `looked`.
 use crate::Looking;
 use crate::Said;
+use crate::Sizes;
 use crate::World;
+use crate::text::say_word;
 use crate::worlds::goes_on;
+use crate::worlds::with_lent;
 use lines::parts::part;
 use lines::text::ending;
 use lines::text::head;
@@ -17,7 +20,7 @@ ghost use mathlib.Core.Path.{_≡_};
 ghost use Prim.Native.Nat.{_+_, _≤_};
 ghost use lib.ListN.{length};
 ghost use Rattle.status.specs.Status.{flag};
-ghost use Rattle.bench.specs.Looks.{linkText, flagsText, cardText, memoryText, lookText, poked, mapLooked, worldLooked, usedLooked};
+ghost use Rattle.bench.specs.Looks.{linkText, flagsText, cardText, memoryText, lookText, poked, mapLooked, lentLooked, worldLooked, usedLooked};
 ghost use Rattle.bench.specs.Worlds.{goneOn};
 ghost use Rattle.lines.specs.Writing.{Wrote};
 
@@ -85,8 +88,8 @@ fn look_line(world: World, looking: Looking, memory: &[u8], map: &[u8], out: &mu
     match looking {
         Looking::Card => card_line(world, map, out),
         Looking::Memory { from, length } => memory_line(world, from, length, memory, out),
-        Looking::Lend(_) => say(world.count, b"lent", b"", out),
-        Looking::Poke { entry: _, value: _ } => say(world.count, b"poked", b"", out),
+        Looking::Lend(_) => say_word(world.count, b"lent", out),
+        Looking::Poke { entry: _, value: _ } => say_word(world.count, b"poked", out),
     }
 }
 
@@ -113,17 +116,15 @@ fn set_map(world: World, looking: Looking, map: &mut [u8])
     }
 }
 
-fn world_looked(world: World, looking: Looking) -> World
-    ensures { λ r. ⌜ r ≡ worldLooked world looking ⌝ }
+// What is lent from now on.
+fn lent_looked(looking: Looking, lent: Sizes) -> Sizes
+    ensures { λ r. ⌜ r ≡ lentLooked looking lent ⌝ }
 {
     match looking {
-        Looking::Card => world,
-        Looking::Memory { from: _, length: _ } => world,
-        Looking::Lend(sizes) => World {
-            lent: sizes,
-            ..world
-        },
-        Looking::Poke { entry: _, value: _ } => world,
+        Looking::Card => lent,
+        Looking::Memory { from: _, length: _ } => lent,
+        Looking::Lend(sizes) => sizes,
+        Looking::Poke { entry: _, value: _ } => lent,
     }
 }
 
@@ -146,5 +147,6 @@ pub fn looked(world: World, looking: Looking, memory: &[u8], map: &mut [u8], out
 {
     let wrote = look_line(world, looking, memory, map, out);
     set_map(world, looking, map);
-    goes_on(world_looked(world, looking), used_looked(looking), wrote)
+    let lent = lent_looked(looking, world.lent);
+    goes_on(with_lent(world, lent), used_looked(looking), wrote)
 }

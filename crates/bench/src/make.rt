@@ -13,11 +13,12 @@ use lines::parts::least;
 use lines::parts::part;
 use lines::text::plain;
 use lines::text::refused_by;
+use record::Card;
 use record::Made;
 ghost use mathlib.Core.Path.{_≡_};
 ghost use Prim.Native.Nat.{_+_, _≤_, _<_};
 ghost use lib.ListN.{length, take, drop, replicate};
-ghost use Rattle.bench.specs.Makes.{filled, memoryMade, mapMade, registerAt, madeFrom, cardMade, makeText, makeSaid};
+ghost use Rattle.bench.specs.Makes.{filled, memoryMade, mapMade, registerAt, madeFrom, cardMade, madeWorld, makeText, makeSaid};
 ghost use Rattle.lines.specs.Writing.{Wrote};
 
 // Every byte made one value.
@@ -93,6 +94,23 @@ pub fn make(
     make_line(world, making, made, out)
 }
 
+// The world of a new card.
+fn made_world(making: Making, card: Card) -> World
+    ensures { λ r. ⌜ r ≡ madeWorld making card ⌝ }
+{
+    let sizes = Sizes {
+        memory: making.memory,
+        map: making.map,
+    };
+    World {
+        card,
+        made: true,
+        own: sizes,
+        lent: sizes,
+        count: 0,
+    }
+}
+
 // What a make leaves, and its line.
 fn make_line(world: World, making: Making, made: Made, out: &mut [u8]) -> Said
     requires { ⌜ 64 ≤ length (now out) ⌝ }
@@ -104,17 +122,7 @@ fn make_line(world: World, making: Making, made: Made, out: &mut [u8]) -> Said
     match outcome {
         record::Making::Done => {
             let wrote = plain(b"made", out);
-            let sizes = Sizes {
-                memory: making.memory,
-                map: making.map,
-            };
-            let next = World {
-                card,
-                made: true,
-                own: sizes,
-                lent: sizes,
-                count: 0,
-            };
+            let next = made_world(making, card);
             goes_on(
                 next,
                 making.map as usize + 43 + making.password as usize,

@@ -3,6 +3,7 @@
 // Offers: `byte`, `two`, `three`, `four`; `read`.
 use crate::Asked;
 use crate::Calling;
+use crate::Going;
 use crate::Looking;
 use crate::Making;
 use crate::Sizes;
@@ -108,7 +109,11 @@ fn frame_asked(script: &[u8]) -> Asked
     ensures { λ r. ⌜ r ≡ frameAsked (now (script .entry)) ⌝ }
 {
     let n = byte(script, 1);
-    let then = whole(n as usize + 2, script, Asked::Call(Calling::Frame(n)));
+    let then = whole(
+        n as usize + 2,
+        script,
+        Asked::Go(Going::Call(Calling::Frame(n))),
+    );
     whole(2, script, then)
 }
 
@@ -127,7 +132,7 @@ fn block_out_asked(script: &[u8]) -> Asked
     ensures { λ r. ⌜ r ≡ blockOutAsked (now (script .entry)) ⌝ }
 {
     let n = two(script, 1);
-    let right = within(n, Asked::Call(Calling::BlockOut(n)));
+    let right = within(n, Asked::Go(Going::Call(Calling::BlockOut(n))));
     whole(3, script, right)
 }
 
@@ -136,7 +141,10 @@ fn memory_asked(script: &[u8]) -> Asked
 {
     let from = three(script, 1);
     let length = two(script, 4);
-    let right = within(length, Asked::Look(Looking::Memory { from, length }));
+    let right = within(
+        length,
+        Asked::Go(Going::Look(Looking::Memory { from, length })),
+    );
     whole(6, script, right)
 }
 
@@ -147,7 +155,7 @@ fn lend_asked(script: &[u8]) -> Asked
         memory: three(script, 1),
         map: byte(script, 4),
     };
-    whole(5, script, Asked::Look(Looking::Lend(sizes)))
+    whole(5, script, Asked::Go(Going::Look(Looking::Lend(sizes))))
 }
 
 fn poke_asked(script: &[u8]) -> Asked
@@ -155,7 +163,11 @@ fn poke_asked(script: &[u8]) -> Asked
 {
     let entry = byte(script, 1);
     let value = byte(script, 2);
-    whole(3, script, Asked::Look(Looking::Poke { entry, value }))
+    whole(
+        3,
+        script,
+        Asked::Go(Going::Look(Looking::Poke { entry, value })),
+    )
 }
 
 fn write_frame_asked(script: &[u8]) -> Asked
@@ -167,11 +179,11 @@ fn write_frame_asked(script: &[u8]) -> Asked
     whole(
         7,
         script,
-        Asked::Wire(Wiring::Frame {
+        Asked::Go(Going::Wire(Wiring::Frame {
             index,
             argument,
             room,
-        }),
+        })),
     )
 }
 
@@ -180,7 +192,7 @@ fn write_block_asked(script: &[u8]) -> Asked
 {
     let length = two(script, 1);
     let room = two(script, length as usize + 3);
-    let right = within(room, Asked::Wire(Wiring::Block { length, room }));
+    let right = within(room, Asked::Go(Going::Wire(Wiring::Block { length, room })));
     counted_asked(script, 2, right)
 }
 
@@ -193,19 +205,19 @@ fn more_asked(kind: u8, script: &[u8]) -> Asked
     }
     if kind == 3 {
         let n = two(script, 1);
-        return counted_asked(script, 0, Asked::Call(Calling::BlockIn(n)));
+        return counted_asked(script, 0, Asked::Go(Going::Call(Calling::BlockIn(n))));
     }
     if kind == 4 {
         return block_out_asked(script);
     }
     if kind == 5 {
-        return Asked::Call(Calling::WorkDone);
+        return Asked::Go(Going::Call(Calling::WorkDone));
     }
     if kind == 6 {
-        return Asked::Call(Calling::PowerOn);
+        return Asked::Go(Going::Call(Calling::PowerOn));
     }
     if kind == 7 {
-        return Asked::Look(Looking::Card);
+        return Asked::Go(Going::Look(Looking::Card));
     }
     shown_asked(kind, script)
 }
@@ -231,7 +243,7 @@ fn shown_asked(kind: u8, script: &[u8]) -> Asked
     }
     if kind == 13 {
         let n = two(script, 1);
-        return counted_asked(script, 0, Asked::Wire(Wiring::Check(n)));
+        return counted_asked(script, 0, Asked::Go(Going::Wire(Wiring::Check(n))));
     }
     Asked::Stop(Stop::BadKind)
 }

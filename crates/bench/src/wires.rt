@@ -7,6 +7,8 @@ use crate::World;
 use crate::calls::space;
 use crate::make::fill;
 use crate::text::refused;
+use crate::text::refused_call;
+use crate::text::say_word;
 use crate::worlds::goes_on;
 use base::Written;
 use lines::parts::part;
@@ -54,8 +56,8 @@ fn checked_line(count: u64, checked: Checked, out: &mut [u8]) -> usize
     ensures { λ r. ⌜ Wrote (now (out .entry)) (now (out .exit)) 0 r (checkedText count checked) ⌝ }
 {
     match checked {
-        Checked::Payload(_) => say(count, b"good", b"", out),
-        Checked::Refused(refusal) => refused(count, refusal, b"", out),
+        Checked::Payload(_) => say_word(count, b"good", out),
+        Checked::Refused(refusal) => refused_call(count, refusal, out),
     }
 }
 

@@ -1,10 +1,12 @@
 // What is kept from record to record.
 //
-// Offers: `counted`, `goes_on`, `ends`.
+// Offers: `counted`, `with_card`, `with_lent`, `goes_on`, `ends`.
 use crate::Said;
+use crate::Sizes;
 use crate::World;
+use record::Card;
 ghost use mathlib.Core.Path.{_≡_};
-ghost use Rattle.bench.specs.Worlds.{counted, goneOn, ended};
+ghost use Rattle.bench.specs.Worlds.{counted, withCard, withLent, goneOn, ended};
 
 // With the number of the next record.
 pub fn counted(world: World) -> World
@@ -17,6 +19,18 @@ pub fn counted(world: World) -> World
         };
     }
     world
+}
+
+pub fn with_card(world: World, card: Card) -> World
+    ensures { λ r. ⌜ r ≡ withCard world card ⌝ }
+{
+    World { card, ..world }
+}
+
+pub fn with_lent(world: World, lent: Sizes) -> World
+    ensures { λ r. ⌜ r ≡ withLent world lent ⌝ }
+{
+    World { lent, ..world }
 }
 
 // A record that is carried out.

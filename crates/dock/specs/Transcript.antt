@@ -8,7 +8,7 @@ use Rattle.dock.specs.Record.{freshWorld, roomy, textOf, saidOf}
 use Rattle.dock.specs.declared.Said.{Said}
 use Rattle.dock.specs.declared.World.{World}
 
--- at most n records, the first of which left this
+-- at most n records of a script, on this bus
 unfoldable pub records : ℕ → World → List ℕ → List ℕ
 records zero w s = []
 records (suc n) w s =

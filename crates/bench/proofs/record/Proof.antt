@@ -18,7 +18,7 @@ unfolding saidOf memoryAfter mapAfter textOf
 returns-2 c =
     let t = le-leb _ _ (c .before .before .before .before .before .before .before .before .before .before .before .if1 .left) in
     let n = c .before .before .before .before .before .before .before .before .before .before .read .ensures in
-    let d = c .before .before .before .before .before .before .carry .ensures in
+    let d = c .before .before .before .before .before .before .obey .ensures in
     (rw (t, ← n) (d .0), (rw (t, ← n) (d .1 .0), (rw (t, ← n) (d .1 .1 .0), rw (t, ← n) (wrote-at (d .1 .1 .1)))))
 
 pub record-spec : {M : Type 1} → statement M

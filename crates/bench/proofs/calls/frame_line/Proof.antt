@@ -11,7 +11,7 @@ returns-2 : tie.Need-returns-2
 returns-2 c = rw (c .before .before .before .before .enum-told2 .given .1) (c .before .before .sent-line2 .ensures)
 
 returns-3 : tie.Need-returns-3
-returns-3 c = rw (c .before .before .before .before .before .before .outcome .given .1) (c .before .before .refused .ensures)
+returns-3 c = rw (c .before .before .before .before .before .outcome .given .1) (c .before .before .refused-call .ensures)
 
 pub frame-line-spec : {M : Type 1} → statement M
 frame-line-spec =
@@ -21,7 +21,6 @@ frame-line-spec =
     (λ c κs. search needs)
     (λ c. search needs)
     (λ c κs. search needs)
-    (λ c. search needs)
     (λ c. search needs)
     (λ c κs. search needs)
     (λ c. search needs)

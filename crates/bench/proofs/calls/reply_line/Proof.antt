@@ -14,10 +14,10 @@ returns-3 : tie.Need-returns-3
 returns-3 c = rw (c .before .before .before .before .enum-told3 .given .1) (c .before .before .block-line .ensures)
 
 returns-4 : tie.Need-returns-4
-returns-4 c = rw (c .before .before .before .before .before .before .enum-told4 .given .1) (c .before .before .say .ensures)
+returns-4 c = rw (c .before .before .before .before .before .enum-told4 .given .1) (c .before .before .say-word .ensures)
 
 returns-5 : tie.Need-returns-5
-returns-5 c = rw (c .before .before .before .before .before .before .enum-told5 .given .1) (c .before .before .say2 .ensures)
+returns-5 c = rw (c .before .before .before .before .before .enum-told5 .given .1) (c .before .before .say-word2 .ensures)
 
 pub reply-line-spec : {M : Type 1} → statement M
 reply-line-spec =
@@ -31,9 +31,7 @@ reply-line-spec =
     (λ c κs. search needs)
     (λ c. search needs)
     (λ c. search needs)
-    (λ c. search needs)
     (λ c κs. search needs)
-    (λ c. search needs)
     (λ c. search needs)
     (λ c. search needs)
     (λ c κs. search needs)

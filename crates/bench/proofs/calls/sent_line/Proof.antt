@@ -16,17 +16,19 @@ returns c =
     let a = c .before .before .before .before .before .before .before .before .before .before .before .before .before .args in
     wrote-as
     (ap (shownText (a .count)) (c .before .before .before .before .part .ensures .0)
-    ∙ sent-text (a .count) (a .registers) (a .sent) (replicate 17 0) (d .last .1 .1 .0) (d .result) (d .ensures .0) (c .before .before .before .before .before .before .before .written .given .0 .0) (c .before .before .before .before .before .before .before .written .given .1) (d .ensures .1))
+    ∙ sent-text (a .count) (a .registers) (a .sent) (replicate 17 0) (d .last .1 .1 .0) (d .result) (d .ensures .0) (c .before .before .before .before .before .before .before .written .given .0 .0)
+    (c .before .before .before .before .before .before .before .written .given .1) (d .ensures .1))
     (c .before .before .shown .ensures)
 
 returns-2 : tie.Need-returns-2
 unfolding sentText
 returns-2 c =
-    let d = c .before .before .before .before .before .before .before .before .before .write-sent in
-    let a = c .before .before .before .before .before .before .before .before .before .before .before .before .args in
+    let d = c .before .before .before .before .before .before .before .before .write-sent in
+    let a = c .before .before .before .before .before .before .before .before .before .before .before .args in
     wrote-as
-    (unsent-text (a .count) (a .registers) (a .sent) (replicate 17 0) (d .last .1 .1 .0) (d .result) (d .ensures .0) (c .before .before .before .before .before .before .written2 .given .0 .0) (c .before .before .before .before .before .before .written2 .given .1))
-    (c .before .before .refused .ensures)
+    (unsent-text (a .count) (a .registers) (a .sent) (replicate 17 0) (d .last .1 .1 .0) (d .result) (d .ensures .0) (c .before .before .before .before .before .written2 .given .0 .0)
+    (c .before .before .before .before .before .written2 .given .1))
+    (c .before .before .refused-call .ensures)
 
 pub sent-line-spec : {M : Type 1} → statement M
 sent-line-spec =
@@ -38,7 +40,6 @@ sent-line-spec =
     (λ c. search needs)
     (λ c κs. search needs)
     (λ c κs. search needs)
-    (λ c. search needs)
     (λ c. search needs)
     (λ c κs. search needs)
     (λ c. search needs)

@@ -8,17 +8,16 @@ use Rattle.bench.proofs.calls.shown.Tie as tie
 
 returns : tie.Need-returns
 unfolding shownText
-returns c = rw (eq-eqb _ _ (c .before .before .before .before .before .before .if1 .taken)) (c .before .before .say .ensures)
+returns c = rw (eq-eqb _ _ (c .before .before .before .before .before .if1 .taken)) (c .before .before .say-word .ensures)
 
 returns-2 : tie.Need-returns-2
 unfolding shownText
-returns-2 c = rw (ne-eqb _ _ (c .before .before .before .before .before .if1 .left)) (c .before .before .say2 .ensures)
+returns-2 c = rw (ne-eqb _ _ (c .before .before .before .before .before .if1 .left)) (c .before .before .say .ensures)
 
 pub shown-spec : {M : Type 1} → statement M
 shown-spec =
     tie.close
     (tie.spec
-    (λ c. search needs)
     (λ c. search needs)
     (λ c κs. search needs)
     (λ c. search needs)

@@ -9,8 +9,8 @@ use Rattle.bench.proofs.calls.tell.Tie as tie
 returns : tie.Need-returns
 unfolding callLeft
 returns c =
-    let w = c .before .before .before .before .before .reply-line .ensures in
-    (simp (c .goes-on .ensures, wrote-line w), rw (c .goes-on .ensures) w)
+    let w = c .before .before .before .before .reply-line .ensures in
+    (simp (c .goes-on .ensures, c .before .with-card .ensures, wrote-line w), rw (c .goes-on .ensures) w)
 
 pub tell-spec : {M : Type 1} → statement M
-tell-spec = tie.close (tie.spec (λ c κs. search needs) (λ c κs. search needs) (λ c. search needs) returns)
+tell-spec = tie.close (tie.spec (λ c κs. search needs) (λ c κs. search needs) (λ c κs. search needs) (λ c. search needs) returns)

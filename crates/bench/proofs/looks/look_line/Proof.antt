@@ -11,10 +11,10 @@ returns-2 : tie.Need-returns-2
 returns-2 c = rw (c .before .before .before .before .before .looking .given .1) (c .before .before .memory-line .ensures)
 
 returns-3 : tie.Need-returns-3
-returns-3 c = rw (c .before .before .before .before .before .before .enum-told2 .given .1) (c .before .before .say .ensures)
+returns-3 c = rw (c .before .before .before .before .before .enum-told2 .given .1) (c .before .before .say-word .ensures)
 
 returns-4 : tie.Need-returns-4
-returns-4 c = rw (c .before .before .before .before .before .before .enum-told3 .given .1) (c .before .before .say2 .ensures)
+returns-4 c = rw (c .before .before .before .before .before .enum-told3 .given .1) (c .before .before .say-word2 .ensures)
 
 pub look-line-spec : {M : Type 1} → statement M
 look-line-spec =
@@ -26,9 +26,7 @@ look-line-spec =
     (λ c κs. search needs)
     (λ c. search needs)
     (λ c. search needs)
-    (λ c. search needs)
     (λ c κs. search needs)
-    (λ c. search needs)
     (λ c. search needs)
     (λ c. search needs)
     (λ c κs. search needs)

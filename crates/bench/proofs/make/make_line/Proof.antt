@@ -7,8 +7,8 @@ use Rattle.bench.proofs.make.make_line.Tie as tie
 
 returns : tie.Need-returns
 returns c =
-    let w = c .before .before .before .before .before .plain .ensures in
-    (simp (c .before .before .before .before .before .before .before .before .enum-told .given .1, c .goes-on .ensures, wrote-line w), rw (c .before .before .before .before .before .before .before .before .enum-told .given .1, c .goes-on .ensures) w)
+    let w = c .before .before .before .before .before .before .plain .ensures in
+    (simp (c .before .before .before .before .before .before .before .before .before .enum-told .given .1, c .goes-on .ensures, c .before .before .before .made-world .ensures, wrote-line w), rw (c .before .before .before .before .before .before .before .before .before .enum-told .given .1, c .goes-on .ensures) w)
 
 returns-2 : tie.Need-returns-2
 returns-2 c =
@@ -21,6 +21,7 @@ make-line-spec =
     (tie.spec
     (λ c. search needs)
     (λ c. search needs)
+    (λ c κs. search needs)
     (λ c κs. search needs)
     (λ c. search needs)
     (λ c. search needs)
