@@ -1,0 +1,177 @@
+# The picture of a card's states, from the table of moves (crates/moves/src/table.rt): each move of the
+# table is an arrow, or a word in the box of a state that stays. Only the places are given here: a move
+# that has none, and a place that has no move, is an error.
+
+# A box, by its centre.
+function box(state, name, x, y) { name_of[state] = name; box_x[state] = x; box_y[state] = y; boxes[++box_count] = state }
+
+# Where the arrow from a state to another goes, and its label: its place, its anchor, its characters to a line.
+function way(from, to, path, x, y, anchor, wide) {
+    ways[++way_count] = from SUBSEP to
+    path_of[from, to] = path
+    place[from, to] = x " " y " " anchor " " wide
+}
+
+# One arrow for a command that leads to a state from each of these.
+function all_of(sources, to, path, x, y, anchor, wide) {
+    group[to] = sources
+    way("all", to, path, x, y, anchor, wide)
+}
+
+# What is no command, and so not in the table.
+function no_command(label, path, x, y, anchor, wide) {
+    calls[++call_count] = path
+    call_label[call_count] = label
+    call_place[call_count] = x " " y " " anchor " " wide
+}
+
+# Labels put together: CMD7, CMD9, 10 make CMD7, 9, 10.
+function joined(a, b) {
+    if (a == "") return b
+    sub(/^CMD/, "", b)
+    return a ", " b
+}
+
+function fail(what) { print "states.awk: " what > "/dev/stderr"; failed = 1; exit 1 }
+
+BEGIN {
+    box("Idle", "Idle", 140, 190)
+    box("Ready", "Ready", 140, 350)
+    box("Ident", "Identification", 140, 510)
+    box("Stby", "Stand-by", 480, 350)
+    box("Tran", "Transfer", 750, 350)
+    box("Data", "Sending-data", 750, 190)
+    box("Rcv", "Receive-data", 1030, 350)
+    box("Prg", "Programming", 750, 510)
+    box("Dis", "Disconnect", 480, 510)
+    box("Ina", "Inactive", 480, 700)
+    way("Idle", "Ready", "M140 225 V311", 150, 263, "start", 20)
+    way("Idle", "Ina", "M60 190 H22 V700 H396", 36, 691, "start", 40)
+    way("Ready", "Ident", "M140 385 V471", 150, 432, "start", 20)
+    way("Ident", "Stby", "M220 510 H356 V350 H396", 290, 502, "middle", 20)
+    way("Stby", "Tran", "M560 338 H666", 613, 329, "middle", 20)
+    way("Tran", "Stby", "M670 362 H564", 617, 380, "middle", 20)
+    way("Data", "Stby", "M670 190 H480 V311", 575, 181, "middle", 20)
+    way("Tran", "Data", "M705 315 V229", 697, 274, "end", 20)
+    way("Data", "Tran", "M750 225 V311", 742, 274, "end", 20)
+    way("Tran", "Rcv", "M830 338 H946", 888, 329, "middle", 20)
+    way("Rcv", "Prg", "M1000 385 V498 H834", 915, 489, "middle", 20)
+    way("Tran", "Prg", "M715 385 V471", 707, 434, "end", 20)
+    way("Prg", "Dis", "M670 498 H564", 617, 489, "middle", 20)
+    way("Dis", "Prg", "M560 522 H666", 613, 540, "middle", 20)
+    all_of("Idle Ready Ident Stby Tran Data Rcv Prg Dis", "Idle", "M170 92 V151", 182, 113, "start", 60)
+    all_of("Stby Tran Data Rcv Prg Dis", "Ina", "M480 590 V661", 492, 641, "start", 60)
+    no_command("power-on, from all ten", "M110 56 V151", 122, 60, "start", 40)
+    no_command("block out (CMD17, 30)", "M790 225 V311", 798, 266, "start", 12)
+    no_command("block refused 16 to 20 (CMD24, 42)", "M950 362 H834", 892, 381, "middle", 14)
+    no_command("block taken (CMD24, 42)", "M1050 385 V522 H834", 925, 540, "middle", 40)
+    no_command("work done", "M780 471 V389", 788, 434, "start", 20)
+    no_command("work done", "M480 471 V389", 488, 434, "start", 20)
+}
+
+# The table: the states by name, the columns, the rows.
+/^const [A-Z]+: Move = Move::To/ { state = $0; gsub(/.*Column::|\).*/, "", state); state_of[substr($2, 1, 3)] = state }
+/^ *\/\/ idl / { for (i = 2; i <= 11; i++) { key = toupper(substr($i, 1, 3)); column[i - 1] = state_of[key] } }
+/^ *\[.*\], *\/\/ / { row($0) }
+
+# A row: where it leads from each state.
+function row(line,    label, cells, count, i, to, sources) {
+    label = cells = line
+    sub(/.*\/\/ /, "", label)
+    gsub(/^ *\[|\].*/, "", cells)
+    count = split(cells, cell, ", ")
+    if (count != 10) fail("a row of " count " states: " line)
+    for (i = 1; i <= 10; i++) {
+        if (!(cell[i] in state_of)) continue
+        to = state_of[cell[i]]
+        sources[to] = sources[to] (sources[to] == "" ? "" : " ") column[i]
+    }
+    for (to in sources) move(sources[to], to, label)
+    rows++
+}
+
+# A row that leads to a state from these.
+function move(sources, to, label,    count, from, i) {
+    if (sources == group[to]) { label_of["all", to] = joined(label_of["all", to], label); return }
+    count = split(sources, from, " ")
+    for (i = 1; i <= count; i++) {
+        if (from[i] == to) stays[to] = joined(stays[to], label)
+        else if ((from[i], to) in path_of) label_of[from[i], to] = joined(label_of[from[i], to], label)
+        else fail("no place for the arrow from " from[i] " to " to)
+    }
+}
+
+# A text in lines of at most so many characters, about the place given.
+function text(label, where, class,    at, words, count, i, line, out, y) {
+    split(where, at, " ")
+    count = split(label, words, " ")
+    y = at[2]
+    for (i = 1; i <= count; i++) {
+        if (line != "" && length(line " " words[i]) > at[4]) { out = out one_line(at[1], y, at[3], class, line); line = ""; y += 16 }
+        line = line (line == "" ? "" : " ") words[i]
+    }
+    return out one_line(at[1], y, at[3], class, line)
+}
+
+function one_line(x, y, anchor, class, line) {
+    return sprintf("<text x=\"%d\" y=\"%d\" text-anchor=\"%s\" class=\"%s\">%s</text>\n", x, y, anchor, class, line)
+}
+
+function draw_box(state, number,    x, y) {
+    x = box_x[state]; y = box_y[state]
+    printf "<rect x=\"%d\" y=\"%d\" width=\"160\" height=\"70\" rx=\"8\" class=\"box\"/>\n", x - 80, y - 35
+    printf "%s", one_line(x, y - (stays[state] == "" ? -5 : 13), "middle", "name", name_of[state] " <tspan class=\"short\">" tolower(state) " " number "</tspan>")
+    if (stays[state] != "") printf "%s", text("stays: " stays[state], x " " y + 6 " middle 24", "stay")
+}
+
+function draw_arrow(path, class) { printf "<path d=\"%s\" class=\"%s\" marker-end=\"url(#%s)\"/>\n", path, class, class }
+
+function header() {
+    print "<svg xmlns=\"http://www.w3.org/2000/svg\" viewBox=\"0 0 1150 770\" width=\"1150\" height=\"770\" font-family=\"Helvetica, Arial, 'DejaVu Sans', sans-serif\">"
+    print "<!-- Made by docs/pictures from crates/moves/src/table.rt. -->"
+    print "<title>The states of a card, and what moves it</title>"
+    print "<style>"
+    print ".box { fill: #ffffff; stroke: #1f2937; stroke-width: 1.6 } .panel { fill: #eef3f9; stroke: #b6c4d6 } .frame { fill: none; stroke: #6b7a90; stroke-width: 1.2 }"
+    print ".name { font-size: 16px; font-weight: bold; fill: #111827 } .short { font-size: 13px; font-weight: normal; fill: #4b5563 } .stay { font-size: 13px; fill: #111827 }"
+    print ".command, .call { fill: none; stroke-width: 1.6; stroke-linejoin: round } .command { stroke: #1f2937 } .call { stroke: #b45309; stroke-dasharray: 6 4 }"
+    print ".label, .called, .head { font-size: 14px; fill: #111827 } .called { fill: #9a4a06 } .head { fill: #4b5f7a }"
+    print "</style>"
+    print "<defs>"
+    print "<marker id=\"command\" viewBox=\"0 0 10 10\" refX=\"5\" refY=\"5\" markerWidth=\"7\" markerHeight=\"7\" orient=\"auto\"><path d=\"M0 0 L10 5 L0 10 z\" fill=\"#1f2937\"/></marker>"
+    print "<marker id=\"call\" viewBox=\"0 0 10 10\" refX=\"5\" refY=\"5\" markerWidth=\"7\" markerHeight=\"7\" orient=\"auto\"><path d=\"M0 0 L10 5 L0 10 z\" fill=\"#b45309\"/></marker>"
+    print "</defs>"
+    print "<rect width=\"1150\" height=\"770\" fill=\"#ffffff\"/>"
+    print "<rect x=\"36\" y=\"92\" width=\"1098\" height=\"510\" rx=\"14\" class=\"frame\"/>"
+    print "<rect x=\"48\" y=\"126\" width=\"276\" height=\"464\" rx=\"10\" class=\"panel\"/>"
+    print "<rect x=\"372\" y=\"126\" width=\"750\" height=\"464\" rx=\"10\" class=\"panel\"/>"
+    printf "%s", one_line(312, 146, "end", "head", "card identification")
+    printf "%s", one_line(1110, 146, "end", "head", "data transfer")
+}
+
+function legend() {
+    draw_arrow("M620 640 H668", "command")
+    printf "%s", one_line(684, 645, "start", "label", "a command that moves the card: the table of moves")
+    draw_arrow("M620 664 H668", "call")
+    printf "%s", one_line(684, 669, "start", "called", "no command, and not in the table: from document 01")
+    printf "%s", text("own: the command names this card's address; other: it names another. won: the card's identifier won the line. A command that is neither on an arrow nor in a state's box moves nothing there; nor does one that is answered with an error.", "620 696 start 68", "label")
+}
+
+END {
+    if (failed) exit 1
+    if (rows != 20) fail("the table has " rows + 0 " rows")
+    header()
+    for (i = 1; i <= 10; i++) draw_box(column[i], i - 1)
+    for (i = 1; i <= way_count; i++) {
+        split(ways[i], ends, SUBSEP)
+        if (!(ways[i] in label_of)) fail("the table has no move from " ends[1] " to " ends[2])
+        draw_arrow(path_of[ways[i]], "command")
+        more = ends[1] == "all" ? ", from each state in this frame" : ""
+        printf "%s", text(label_of[ways[i]] more, place[ways[i]], "label")
+    }
+    for (i = 1; i <= call_count; i++) {
+        draw_arrow(calls[i], "call")
+        printf "%s", text(call_label[i], call_place[i], "called")
+    }
+    legend()
+    print "</svg>"
+}
