@@ -35,23 +35,28 @@ function dock(number, identifier,    first) {
     identifier_of[units] = identifier
     for (first = 1; identifier_of[first] != identifier; first++) { }
     same_as[units] = first
-    if (first != units) clones++
 }
 
 # A frame for all: a round is CMD2 and the CMD3 that follows; CMD13 asks a number afterwards.
 function heard(command, number, answer,    u) {
     if (command == 2) {
         shown[++rounds] = substr(answer, 3, 30)
+        sent[rounds] = "CMD2"
         for (u = 1; u <= units; u++) cell[rounds, u] = number_of[u] ? "has " number_of[u] : shown[rounds] == identifier_of[u] ? "won" : "lost"
     }
-    if (command == 3 && answer != "")
-        for (u = 1; u <= units; u++) if (cell[rounds, u] == "won") { number_of[u] = given[rounds] = number }
+    if (command == 3 && answer != "") {
+        sent[rounds] = "CMD2, CMD3"
+        for (u = 1; u <= units; u++) if (cell[rounds, u] == "won") number_of[u] = given[rounds] = number
+    }
     if (command == 13 && answer != "") {
         asked[++questions] = number
-        state[questions] = int(hex(substr(answer, 7, 2)) / 2) % 16
+        state_of[number] = states[int(hex(substr(answer, 7, 2)) / 2) % 16 + 1]
         reply[questions] = answer
     }
 }
+
+# What a unit with a number is: its state where a CMD13 told it.
+function standing(number) { return (number in state_of ? state_of[number] ", n" : "n") "umber " number }
 
 # The place, from 1, of the first bit in which two identifiers differ; the second must be the lower there.
 function parting(own, lower,    i, a, b, bit) {
@@ -80,42 +85,54 @@ function draw_cell(r, u, y,    x, own) {
     if (cell[r, u] == "won") {
         rect(x, y, 184, 72, light(u), dark(u), "")
         text(x + 92, y + 29, "strong", "says " brief(own) ": heard")
-        text(x + 92, y + 52, "cell", given[r] ? "takes number " given[r] : "gets no number")
+        text(x + 92, y + 52, "cell", given[r] ? standing(given[r]) : "gets no number")
     } else if (cell[r, u] == "lost" && shown[r] != "") {
         rect(x, y, 184, 72, "#ffffff", dark(u), " stroke-dasharray=\"5 4\"")
         text(x + 92, y + 29, "cell", "says " brief(own))
         text(x + 92, y + 52, "cell", "falls silent at bit " parting(own, shown[r]))
     } else {
         rect(x, y, 184, 72, "#f3f4f6", "#d1d5db", "")
-        text(x + 92, y + 41, "quiet", cell[r, u] == "lost" ? "keeps silent" : "is number " substr(cell[r, u], 5))
+        text(x + 92, y + 41, "quiet", cell[r, u] == "lost" ? "keeps silent" : standing(substr(cell[r, u], 5)))
     }
 }
+
+function from(who) { return "from " who (who == 1 ? " unit" : " units") }
 
 function draw_line(y, what, below, class) {
     text(left(units + 1) + 100, y + 29, class, what)
     text(left(units + 1) + 100, y + 52, "cell", below)
 }
 
-function draw_head(    u) {
-    text(left(units + 1) + 100, 56, "head", "the line shows")
+# The units, and a bracket over those that have one identifier.
+function draw_head(    u, first) {
+    text(left(units + 1) + 100, 82, "head", "the line shows")
     for (u = 1; u <= units; u++) {
-        rect(left(u), 24, 184, 62, dark(u), dark(u), "")
-        text(left(u) + 92, 49, "unit", "Unit " u)
-        text(left(u) + 92, 73, "identifier", brief(identifier_of[u]))
+        first = same_as[u]
+        if (first != u) {
+            printf "<path d=\"M%d 48 V28 H%d V48\" fill=\"none\" stroke=\"%s\" stroke-width=\"2\"/>\n", left(first) + 92, left(u) + 92, dark(u)
+            text((left(first) + left(u)) / 2 + 92, 20, "cell", "the same identifier")
+        }
+        rect(left(u), 48, 184, 62, dark(u), dark(u), "")
+        text(left(u) + 92, 73, "unit", "Unit " u)
+        text(left(u) + 92, 97, "identifier", brief(identifier_of[u]))
     }
 }
 
-function draw_round(r, y,    u) {
-    text(66, y + 41, "head", "Round " r)
-    for (u = 1; u <= units; u++) draw_cell(r, u, y)
-    if (shown[r] == "") draw_line(y, "silence", "nobody is left", "silence")
-    else draw_line(y, brief(shown[r]), "one answer", "shown")
+function draw_round(r, y,    u, who) {
+    text(66, y + 33, "strong", "Round " r)
+    text(66, y + 53, "quiet", sent[r])
+    for (u = 1; u <= units; u++) {
+        draw_cell(r, u, y)
+        who += cell[r, u] == "won"
+    }
+    if (shown[r] == "") draw_line(y, "silence", "nobody answers", "silence")
+    else draw_line(y, brief(shown[r]), from(who), "shown")
 }
 
 # A number asked afterwards: all that have it answer, and the line shows one answer.
 function draw_question(q, y,    u, who) {
-    text(66, y + 29, "head", "Number " asked[q] ",")
-    text(66, y + 49, "head", "how are you?")
+    text(66, y + 33, "strong", "To number " asked[q])
+    text(66, y + 53, "quiet", "CMD13")
     for (u = 1; u <= units; u++) {
         if (number_of[u] == asked[q]) {
             rect(left(u), y, 184, 72, light(u), dark(u), "")
@@ -126,21 +143,26 @@ function draw_question(q, y,    u, who) {
             text(left(u) + 92, y + 41, "quiet", "keeps silent")
         }
     }
-    split("Idle Ready Identification Stand-by Transfer Sending-data Receive-data Programming Disconnect", states, " ")
-    draw_line(y, reply[q], states[state[q] + 1] ", from " who (who == 1 ? " unit" : " units"), "reply")
+    draw_line(y, reply[q], state_of[asked[q]] ", " from(who), "reply")
 }
 
-function draw_verdict(y,    answered, r) {
-    for (r = 1; r <= rounds; r++) if (shown[r] != "") answered++
-    rect(24, y, left(units + 1) + 176, 50, clones ? "#fde2e2" : "#e2f5e8", clones ? "#b91c1c" : "#047857", "")
-    text(24 + (left(units + 1) + 176) / 2, y + 31, "strong", units " units docked, " answered " rounds answered: " (answered < units ? "there is a clone on the bus" : "no clone is on the bus"))
+# What the dock can count: fewer rounds answered than units docked, and then silence.
+function draw_verdict(y,    answered, r, words, fill, edge) {
+    for (r = 1; r <= rounds; r++) answered += shown[r] != ""
+    words = "the roll is not over"
+    fill = "#f3f4f6"; edge = "#6b7280"
+    if (shown[rounds] == "" && answered < units) { words = "there is a clone on the bus"; fill = "#fde2e2"; edge = "#b91c1c" }
+    if (shown[rounds] == "" && answered == units) { words = "there is no clone on the bus"; fill = "#e2f5e8"; edge = "#047857" }
+    rect(24, y, left(units + 1) + 176, 50, fill, edge, "")
+    text(24 + (left(units + 1) + 176) / 2, y + 31, "strong", units " units docked, " answered " rounds answered: " words)
 }
 
 END {
     if (failed) exit 1
+    split("Idle Ready Identification Stand-by Transfer Sending-data Receive-data Programming Disconnect", states, " ")
     play()
     width = left(units + 1) + 224
-    height = 104 + 88 * (rounds + questions) + 78
+    height = 128 + 88 * (rounds + questions) + 78
     printf "<svg xmlns=\"http://www.w3.org/2000/svg\" viewBox=\"0 0 %d %d\" width=\"%d\" height=\"%d\" font-family=\"Helvetica, Arial, 'DejaVu Sans', sans-serif\" text-anchor=\"middle\">\n", width, height, width, height
     print "<!-- Made by docs/pictures from examples/night_of_two_clones.hex and what busline prints of it. -->"
     print "<title>A bus with clones, round by round</title>"
@@ -151,8 +173,8 @@ END {
     print "</style>"
     printf "<rect width=\"%d\" height=\"%d\" fill=\"#ffffff\"/>\n", width, height
     draw_head()
-    for (r = 1; r <= rounds; r++) draw_round(r, 104 + 88 * (r - 1))
-    for (q = 1; q <= questions; q++) draw_question(q, 104 + 88 * (rounds + q - 1))
-    draw_verdict(104 + 88 * (rounds + questions) + 4)
+    for (r = 1; r <= rounds; r++) draw_round(r, 128 + 88 * (r - 1))
+    for (q = 1; q <= questions; q++) draw_question(q, 128 + 88 * (rounds + q - 1))
+    draw_verdict(128 + 88 * (rounds + questions) + 4)
     print "</svg>"
 }

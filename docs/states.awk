@@ -13,8 +13,9 @@ function way(from, to, path, x, y, anchor, wide) {
 }
 
 # One arrow for a command that leads to a state from each of these.
-function all_of(sources, to, path, x, y, anchor, wide) {
+function all_of(sources, to, words, path, x, y, anchor, wide) {
     group[to] = sources
+    words_of[to] = words
     way("all", to, path, x, y, anchor, wide)
 }
 
@@ -35,38 +36,38 @@ function joined(a, b) {
 function fail(what) { print "states.awk: " what > "/dev/stderr"; failed = 1; exit 1 }
 
 BEGIN {
-    box("Idle", "Idle", 140, 190)
-    box("Ready", "Ready", 140, 350)
-    box("Ident", "Identification", 140, 510)
-    box("Stby", "Stand-by", 480, 350)
-    box("Tran", "Transfer", 750, 350)
-    box("Data", "Sending-data", 750, 190)
-    box("Rcv", "Receive-data", 1030, 350)
-    box("Prg", "Programming", 750, 510)
-    box("Dis", "Disconnect", 480, 510)
-    box("Ina", "Inactive", 480, 700)
-    way("Idle", "Ready", "M140 225 V311", 150, 263, "start", 20)
-    way("Idle", "Ina", "M60 190 H22 V700 H396", 36, 691, "start", 40)
-    way("Ready", "Ident", "M140 385 V471", 150, 432, "start", 20)
-    way("Ident", "Stby", "M220 510 H356 V350 H396", 290, 502, "middle", 20)
-    way("Stby", "Tran", "M560 338 H666", 613, 329, "middle", 20)
-    way("Tran", "Stby", "M670 362 H564", 617, 380, "middle", 20)
-    way("Data", "Stby", "M670 190 H480 V311", 575, 181, "middle", 20)
-    way("Tran", "Data", "M705 315 V229", 697, 274, "end", 20)
-    way("Data", "Tran", "M750 225 V311", 742, 274, "end", 20)
-    way("Tran", "Rcv", "M830 338 H946", 888, 329, "middle", 20)
-    way("Rcv", "Prg", "M1000 385 V498 H834", 915, 489, "middle", 20)
-    way("Tran", "Prg", "M715 385 V471", 707, 434, "end", 20)
-    way("Prg", "Dis", "M670 498 H564", 617, 489, "middle", 20)
-    way("Dis", "Prg", "M560 522 H666", 613, 540, "middle", 20)
-    all_of("Idle Ready Ident Stby Tran Data Rcv Prg Dis", "Idle", "M170 92 V151", 182, 113, "start", 60)
-    all_of("Stby Tran Data Rcv Prg Dis", "Ina", "M480 590 V661", 492, 641, "start", 60)
-    no_command("power-on, from all ten", "M110 56 V151", 122, 60, "start", 40)
-    no_command("block out (CMD17, 30)", "M790 225 V311", 798, 266, "start", 12)
-    no_command("block refused 16 to 20 (CMD24, 42)", "M950 362 H834", 892, 381, "middle", 14)
-    no_command("block taken (CMD24, 42)", "M1050 385 V522 H834", 925, 540, "middle", 40)
-    no_command("work done", "M780 471 V389", 788, 434, "start", 20)
-    no_command("work done", "M480 471 V389", 488, 434, "start", 20)
+    box("Idle", "Idle", 140, 200)
+    box("Ready", "Ready", 140, 370)
+    box("Ident", "Identification", 140, 540)
+    box("Stby", "Stand-by", 480, 370)
+    box("Tran", "Transfer", 750, 370)
+    box("Data", "Sending-data", 750, 200)
+    box("Rcv", "Receive-data", 1042, 370)
+    box("Prg", "Programming", 750, 540)
+    box("Dis", "Disconnect", 480, 540)
+    box("Ina", "Inactive", 480, 750)
+    way("Idle", "Ready", "M140 242 V324", 150, 279, "start", 20)
+    way("Idle", "Ina", "M55 200 H20 V750 H391", 34, 741, "start", 40)
+    way("Ready", "Ident", "M140 412 V494", 150, 457, "start", 20)
+    way("Ident", "Stby", "M225 540 H348 V370 H391", 284, 531, "middle", 20)
+    way("Stby", "Tran", "M565 356 H661", 613, 347, "middle", 20)
+    way("Tran", "Stby", "M665 384 H569", 617, 403, "middle", 20)
+    way("Data", "Stby", "M665 200 H480 V324", 575, 191, "middle", 20)
+    way("Tran", "Data", "M692 328 V246", 684, 291, "end", 20)
+    way("Data", "Tran", "M738 242 V324", 745, 288, "start", 20)
+    way("Tran", "Rcv", "M835 356 H953", 895, 347, "middle", 20)
+    way("Rcv", "Prg", "M1002 412 V526 H839", 920, 517, "middle", 20)
+    way("Tran", "Prg", "M712 412 V494", 704, 457, "end", 20)
+    way("Prg", "Dis", "M665 526 H569", 617, 517, "middle", 20)
+    way("Dis", "Prg", "M565 554 H661", 613, 573, "middle", 20)
+    all_of("Idle Ready Ident Stby Tran Data Rcv Prg Dis", "Idle", "from each state in the outer frame", "M170 92 V154", 182, 114, "start", 60)
+    all_of("Stby Tran Data Rcv Prg Dis", "Ina", "from each state of data transfer", "M480 610 V704", 490, 660, "start", 22)
+    no_command("power-on, from each of the ten states", "M110 50 V154", 124, 54, "start", 60)
+    no_command("block out (CMD17, 30)", "M808 242 V324", 816, 280, "start", 12)
+    no_command("block refused 16 to 20 (CMD24, 42)", "M957 384 H839", 897, 403, "middle", 14)
+    no_command("block taken (CMD24, 42)", "M1082 412 V554 H839", 956, 573, "middle", 40)
+    no_command("work done", "M788 498 V416", 796, 457, "start", 20)
+    no_command("work done", "M480 498 V416", 490, 457, "start", 20)
 }
 
 # The table: the states by name, the columns, the rows.
@@ -117,22 +118,24 @@ function one_line(x, y, anchor, class, line) {
     return sprintf("<text x=\"%d\" y=\"%d\" text-anchor=\"%s\" class=\"%s\">%s</text>\n", x, y, anchor, class, line)
 }
 
-function draw_box(state, number,    x, y) {
+function draw_box(state, number,    x, y, stay) {
     x = box_x[state]; y = box_y[state]
-    printf "<rect x=\"%d\" y=\"%d\" width=\"160\" height=\"70\" rx=\"8\" class=\"box\"/>\n", x - 80, y - 35
-    printf "%s", one_line(x, y - (stays[state] == "" ? -5 : 13), "middle", "name", name_of[state] " <tspan class=\"short\">" tolower(state) " " number "</tspan>")
-    if (stays[state] != "") printf "%s", text("stays: " stays[state], x " " y + 6 " middle 24", "stay")
+    printf "<rect x=\"%d\" y=\"%d\" width=\"170\" height=\"84\" rx=\"8\" class=\"box\"/>\n", x - 85, y - 42
+    stay = stays[state] == "" ? "" : "stays: " stays[state]
+    y -= stay == "" ? 3 : length(stay) <= 22 ? 13 : 20
+    printf "%s", one_line(x, y, "middle", "name", name_of[state]) one_line(x, y + 18, "middle", "short", tolower(state) ", state " number)
+    if (stay != "") printf "%s", text(stay, x " " y + 37 " middle 22", "stay")
 }
 
 function draw_arrow(path, class) { printf "<path d=\"%s\" class=\"%s\" marker-end=\"url(#%s)\"/>\n", path, class, class }
 
 function header() {
-    print "<svg xmlns=\"http://www.w3.org/2000/svg\" viewBox=\"0 0 1150 770\" width=\"1150\" height=\"770\" font-family=\"Helvetica, Arial, 'DejaVu Sans', sans-serif\">"
+    print "<svg xmlns=\"http://www.w3.org/2000/svg\" viewBox=\"0 0 1164 830\" width=\"1164\" height=\"830\" font-family=\"Helvetica, Arial, 'DejaVu Sans', sans-serif\">"
     print "<!-- Made by docs/pictures from crates/moves/src/table.rt. -->"
     print "<title>The states of a card, and what moves it</title>"
     print "<style>"
     print ".box { fill: #ffffff; stroke: #1f2937; stroke-width: 1.6 } .panel { fill: #eef3f9; stroke: #b6c4d6 } .frame { fill: none; stroke: #6b7a90; stroke-width: 1.2 }"
-    print ".name { font-size: 16px; font-weight: bold; fill: #111827 } .short { font-size: 13px; font-weight: normal; fill: #4b5563 } .stay { font-size: 13px; fill: #111827 }"
+    print ".title { font-size: 20px; font-weight: bold; fill: #111827 } .name { font-size: 16px; font-weight: bold; fill: #111827 } .short { font-size: 13px; font-weight: normal; fill: #4b5563 } .stay { font-size: 13px; fill: #111827 }"
     print ".command, .call { fill: none; stroke-width: 1.6; stroke-linejoin: round } .command { stroke: #1f2937 } .call { stroke: #b45309; stroke-dasharray: 6 4 }"
     print ".label, .called, .head { font-size: 14px; fill: #111827 } .called { fill: #9a4a06 } .head { fill: #4b5f7a }"
     print "</style>"
@@ -140,20 +143,21 @@ function header() {
     print "<marker id=\"command\" viewBox=\"0 0 10 10\" refX=\"5\" refY=\"5\" markerWidth=\"7\" markerHeight=\"7\" orient=\"auto\"><path d=\"M0 0 L10 5 L0 10 z\" fill=\"#1f2937\"/></marker>"
     print "<marker id=\"call\" viewBox=\"0 0 10 10\" refX=\"5\" refY=\"5\" markerWidth=\"7\" markerHeight=\"7\" orient=\"auto\"><path d=\"M0 0 L10 5 L0 10 z\" fill=\"#b45309\"/></marker>"
     print "</defs>"
-    print "<rect width=\"1150\" height=\"770\" fill=\"#ffffff\"/>"
-    print "<rect x=\"36\" y=\"92\" width=\"1098\" height=\"510\" rx=\"14\" class=\"frame\"/>"
-    print "<rect x=\"48\" y=\"126\" width=\"276\" height=\"464\" rx=\"10\" class=\"panel\"/>"
-    print "<rect x=\"372\" y=\"126\" width=\"750\" height=\"464\" rx=\"10\" class=\"panel\"/>"
-    printf "%s", one_line(312, 146, "end", "head", "card identification")
-    printf "%s", one_line(1110, 146, "end", "head", "data transfer")
+    print "<rect width=\"1164\" height=\"830\" fill=\"#ffffff\"/>"
+    printf "%s", one_line(1148, 58, "end", "title", "The states of a card, and what moves it")
+    print "<rect x=\"36\" y=\"92\" width=\"1112\" height=\"530\" rx=\"14\" class=\"frame\"/>"
+    print "<rect x=\"48\" y=\"126\" width=\"276\" height=\"484\" rx=\"10\" class=\"panel\"/>"
+    print "<rect x=\"372\" y=\"126\" width=\"764\" height=\"484\" rx=\"10\" class=\"panel\"/>"
+    printf "%s", one_line(312, 148, "end", "head", "card identification")
+    printf "%s", one_line(1122, 148, "end", "head", "data transfer")
 }
 
 function legend() {
-    draw_arrow("M620 640 H668", "command")
-    printf "%s", one_line(684, 645, "start", "label", "a command that moves the card: the table of moves")
-    draw_arrow("M620 664 H668", "call")
-    printf "%s", one_line(684, 669, "start", "called", "no command, and not in the table: from document 01")
-    printf "%s", text("own: the command names this card's address; other: it names another. won: the card's identifier won the line. A command that is neither on an arrow nor in a state's box moves nothing there; nor does one that is answered with an error.", "620 696 start 68", "label")
+    draw_arrow("M690 660 H738", "command")
+    printf "%s", one_line(756, 665, "start", "label", "a command: from the table of moves")
+    draw_arrow("M690 686 H738", "call")
+    printf "%s", one_line(756, 691, "start", "called", "no command, not in the table: from document 01")
+    printf "%s", text("own: for this card's address; other: for another's; won: this card's identifier won the line. A command moves nothing where it is on no arrow and in no box, nor where its argument is wrong or the lock forbids it.", "690 724 start 57", "label")
 }
 
 END {
@@ -165,7 +169,7 @@ END {
         split(ways[i], ends, SUBSEP)
         if (!(ways[i] in label_of)) fail("the table has no move from " ends[1] " to " ends[2])
         draw_arrow(path_of[ways[i]], "command")
-        more = ends[1] == "all" ? ", from each state in this frame" : ""
+        more = ends[1] == "all" ? ", " words_of[ends[2]] : ""
         printf "%s", text(label_of[ways[i]] more, place[ways[i]], "label")
     }
     for (i = 1; i <= call_count; i++) {
