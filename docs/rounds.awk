@@ -42,7 +42,8 @@ function heard(command, number, answer,    u) {
     if (command == 2) {
         shown[++rounds] = substr(answer, 3, 30)
         sent[rounds] = "CMD2"
-        for (u = 1; u <= units; u++) cell[rounds, u] = number_of[u] ? "has " number_of[u] : shown[rounds] == identifier_of[u] ? "won" : "lost"
+        for (u = 1; u <= units; u++)
+            cell[rounds, u] = number_of[u] ? "has " number_of[u] : shown[rounds] == identifier_of[u] ? "won" : "lost"
     }
     if (command == 3 && answer != "") {
         sent[rounds] = "CMD2, CMD3"
@@ -67,10 +68,11 @@ function parting(own, lower,    i, a, b, bit) {
     return 4 * i - (bit == 8 ? 3 : bit == 4 ? 2 : bit == 2 ? 1 : 0)
 }
 
-function text(x, y, class, line) { printf "<text x=\"%d\" y=\"%d\" class=\"%s\">%s</text>\n", x, y, class, line }
+function text(x, y, class, line) { printf "<text x='%d' y='%d' class='%s'>%s</text>\n", x, y, class, line }
 
 function rect(x, y, w, h, fill, stroke, more) {
-    printf "<rect x=\"%d\" y=\"%d\" width=\"%d\" height=\"%d\" rx=\"8\" fill=\"%s\" stroke=\"%s\" stroke-width=\"1.6\"%s/>\n", x, y, w, h, fill, stroke, more
+    printf "<rect x='%d' y='%d' width='%d' height='%d' rx='8' ", x, y, w, h
+    printf "fill='%s' stroke='%s' stroke-width='1.6'%s/>\n", fill, stroke, more
 }
 
 # The left edge of a unit's column, and the colours of its identifier.
@@ -87,7 +89,7 @@ function draw_cell(r, u, y,    x, own) {
         text(x + 92, y + 29, "strong", "says " brief(own) ": heard")
         text(x + 92, y + 52, "cell", given[r] ? standing(given[r]) : "gets no number")
     } else if (cell[r, u] == "lost" && shown[r] != "") {
-        rect(x, y, 184, 72, "#ffffff", dark(u), " stroke-dasharray=\"5 4\"")
+        rect(x, y, 184, 72, "#ffffff", dark(u), " stroke-dasharray='5 4'")
         text(x + 92, y + 29, "cell", "says " brief(own))
         text(x + 92, y + 52, "cell", "falls silent at bit " parting(own, shown[r]))
     } else {
@@ -109,7 +111,8 @@ function draw_head(    u, first) {
     for (u = 1; u <= units; u++) {
         first = same_as[u]
         if (first != u) {
-            printf "<path d=\"M%d 48 V28 H%d V48\" fill=\"none\" stroke=\"%s\" stroke-width=\"2\"/>\n", left(first) + 92, left(u) + 92, dark(u)
+            printf "<path d='M%d 48 V28 H%d V48' ", left(first) + 92, left(u) + 92
+            printf "fill='none' stroke='%s' stroke-width='2'/>\n", dark(u)
             text((left(first) + left(u)) / 2 + 92, 20, "cell", "the same identifier")
         }
         rect(left(u), 48, 184, 62, dark(u), dark(u), "")
@@ -157,24 +160,34 @@ function draw_verdict(y,    answered, r, words, fill, edge) {
     text(24 + (left(units + 1) + 176) / 2, y + 31, "strong", units " units docked, " answered " rounds answered: " words)
 }
 
+function header(width, height) {
+    printf "<svg xmlns='http://www.w3.org/2000/svg' viewBox='0 0 %d %d' width='%d' height='%d'", width, height, width, height
+    print " font-family='Helvetica, Arial, DejaVu Sans, sans-serif' text-anchor='middle'>"
+    print "<!-- Made by docs/pictures from examples/night_of_two_clones.hex and what busline prints of it. -->"
+    print "<title>A bus with clones, round by round</title>"
+    print "<style>"
+    print ".unit { font-size: 15px; font-weight: bold; fill: #ffffff }"
+    print ".identifier { font-size: 18px; font-weight: bold; fill: #ffffff }"
+    print ".shown { font-size: 18px; font-weight: bold; fill: #111827 }"
+    print ".silence { font-size: 18px; font-weight: bold; fill: #b91c1c }"
+    print ".strong { font-size: 15px; font-weight: bold; fill: #111827 }"
+    print ".cell { font-size: 14px; fill: #1f2937 }"
+    print ".quiet { font-size: 14px; fill: #6b7280 }"
+    print ".head { font-size: 15px; fill: #374151 }"
+    print ".reply { font-size: 15px; font-family: DejaVu Sans Mono, Menlo, Consolas, monospace; fill: #111827 }"
+    print "</style>"
+    printf "<rect width='%d' height='%d' fill='#ffffff'/>\n", width, height
+}
+
 END {
     if (failed) exit 1
     split("Idle Ready Identification Stand-by Transfer Sending-data Receive-data Programming Disconnect", states, " ")
     play()
-    width = left(units + 1) + 224
-    height = 128 + 88 * (rounds + questions) + 78
-    printf "<svg xmlns=\"http://www.w3.org/2000/svg\" viewBox=\"0 0 %d %d\" width=\"%d\" height=\"%d\" font-family=\"Helvetica, Arial, 'DejaVu Sans', sans-serif\" text-anchor=\"middle\">\n", width, height, width, height
-    print "<!-- Made by docs/pictures from examples/night_of_two_clones.hex and what busline prints of it. -->"
-    print "<title>A bus with clones, round by round</title>"
-    print "<style>"
-    print ".unit, .identifier { fill: #ffffff; font-weight: bold } .unit { font-size: 15px } .identifier, .shown, .silence { font-size: 18px; font-weight: bold }"
-    print ".shown { fill: #111827 } .silence { fill: #b91c1c } .strong { font-size: 15px; font-weight: bold; fill: #111827 } .cell { font-size: 14px; fill: #1f2937 }"
-    print ".quiet { font-size: 14px; fill: #6b7280 } .head { font-size: 15px; fill: #374151 } .reply { font-size: 15px; font-family: 'DejaVu Sans Mono', Menlo, Consolas, monospace; fill: #111827 }"
-    print "</style>"
-    printf "<rect width=\"%d\" height=\"%d\" fill=\"#ffffff\"/>\n", width, height
+    rows = rounds + questions
+    header(left(units + 1) + 224, 128 + 88 * rows + 78)
     draw_head()
     for (r = 1; r <= rounds; r++) draw_round(r, 128 + 88 * (r - 1))
     for (q = 1; q <= questions; q++) draw_question(q, 128 + 88 * (rounds + q - 1))
-    draw_verdict(128 + 88 * (rounds + questions) + 4)
+    draw_verdict(128 + 88 * rows + 4)
     print "</svg>"
 }

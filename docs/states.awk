@@ -60,8 +60,9 @@ BEGIN {
     way("Tran", "Prg", "M712 412 V494", 704, 457, "end", 20)
     way("Prg", "Dis", "M665 526 H569", 617, 517, "middle", 20)
     way("Dis", "Prg", "M565 554 H661", 613, 573, "middle", 20)
-    all_of("Idle Ready Ident Stby Tran Data Rcv Prg Dis", "Idle", "from each state in the outer frame", "M170 92 V154", 182, 114, "start", 60)
-    all_of("Stby Tran Data Rcv Prg Dis", "Ina", "from each state of data transfer", "M480 610 V704", 490, 660, "start", 22)
+    six = "Stby Tran Data Rcv Prg Dis"
+    all_of("Idle Ready Ident " six, "Idle", "from each state in the outer frame", "M170 92 V154", 182, 114, "start", 60)
+    all_of(six, "Ina", "from each state of data transfer", "M480 610 V704", 490, 660, "start", 22)
     no_command("power-on, from each of the ten states", "M110 50 V154", 124, 54, "start", 60)
     no_command("block out (CMD17, 30)", "M808 242 V324", 816, 280, "start", 12)
     no_command("block refused 16 to 20 (CMD24, 42)", "M957 384 H839", 897, 403, "middle", 14)
@@ -115,49 +116,70 @@ function text(label, where, class,    at, words, count, i, line, out, y) {
 }
 
 function one_line(x, y, anchor, class, line) {
-    return sprintf("<text x=\"%d\" y=\"%d\" text-anchor=\"%s\" class=\"%s\">%s</text>\n", x, y, anchor, class, line)
+    return sprintf("<text x='%d' y='%d' text-anchor='%s' class='%s'>%s</text>\n", x, y, anchor, class, line)
 }
 
 function draw_box(state, number,    x, y, stay) {
     x = box_x[state]; y = box_y[state]
-    printf "<rect x=\"%d\" y=\"%d\" width=\"170\" height=\"84\" rx=\"8\" class=\"box\"/>\n", x - 85, y - 42
+    printf "<rect x='%d' y='%d' width='170' height='84' rx='8' class='box'/>\n", x - 85, y - 42
     stay = stays[state] == "" ? "" : "stays: " stays[state]
     y -= stay == "" ? 3 : length(stay) <= 22 ? 13 : 20
     printf "%s", one_line(x, y, "middle", "name", name_of[state]) one_line(x, y + 18, "middle", "short", tolower(state) ", state " number)
     if (stay != "") printf "%s", text(stay, x " " y + 37 " middle 22", "stay")
 }
 
-function draw_arrow(path, class) { printf "<path d=\"%s\" class=\"%s\" marker-end=\"url(#%s)\"/>\n", path, class, class }
+function draw_arrow(path, class) { printf "<path d='%s' class='%s' marker-end='url(#%s)'/>\n", path, class, class }
+
+function marker(name, fill) {
+    printf "<marker id='%s' viewBox='0 0 10 10' refX='5' refY='5' markerWidth='7' markerHeight='7' orient='auto'>", name
+    printf "<path d='M0 0 L10 5 L0 10 z' fill='%s'/></marker>\n", fill
+}
+
+function style() {
+    print "<style>"
+    print ".box { fill: #ffffff; stroke: #1f2937; stroke-width: 1.6 }"
+    print ".panel { fill: #eef3f9; stroke: #b6c4d6 }"
+    print ".frame { fill: none; stroke: #6b7a90; stroke-width: 1.2 }"
+    print ".title { font-size: 20px; font-weight: bold; fill: #111827 }"
+    print ".name { font-size: 16px; font-weight: bold; fill: #111827 }"
+    print ".short { font-size: 13px; font-weight: normal; fill: #4b5563 }"
+    print ".stay { font-size: 13px; fill: #111827 }"
+    print ".command, .call { fill: none; stroke-width: 1.6; stroke-linejoin: round }"
+    print ".command { stroke: #1f2937 }"
+    print ".call { stroke: #b45309; stroke-dasharray: 6 4 }"
+    print ".label, .called, .head { font-size: 14px; fill: #111827 }"
+    print ".called { fill: #9a4a06 }"
+    print ".head { fill: #4b5f7a }"
+    print "</style>"
+}
 
 function header() {
-    print "<svg xmlns=\"http://www.w3.org/2000/svg\" viewBox=\"0 0 1164 830\" width=\"1164\" height=\"830\" font-family=\"Helvetica, Arial, 'DejaVu Sans', sans-serif\">"
+    printf "<svg xmlns='http://www.w3.org/2000/svg' viewBox='0 0 1164 830' width='1164' height='830'"
+    print " font-family='Helvetica, Arial, DejaVu Sans, sans-serif'>"
     print "<!-- Made by docs/pictures from crates/moves/src/table.rt. -->"
     print "<title>The states of a card, and what moves it</title>"
-    print "<style>"
-    print ".box { fill: #ffffff; stroke: #1f2937; stroke-width: 1.6 } .panel { fill: #eef3f9; stroke: #b6c4d6 } .frame { fill: none; stroke: #6b7a90; stroke-width: 1.2 }"
-    print ".title { font-size: 20px; font-weight: bold; fill: #111827 } .name { font-size: 16px; font-weight: bold; fill: #111827 } .short { font-size: 13px; font-weight: normal; fill: #4b5563 } .stay { font-size: 13px; fill: #111827 }"
-    print ".command, .call { fill: none; stroke-width: 1.6; stroke-linejoin: round } .command { stroke: #1f2937 } .call { stroke: #b45309; stroke-dasharray: 6 4 }"
-    print ".label, .called, .head { font-size: 14px; fill: #111827 } .called { fill: #9a4a06 } .head { fill: #4b5f7a }"
-    print "</style>"
+    style()
     print "<defs>"
-    print "<marker id=\"command\" viewBox=\"0 0 10 10\" refX=\"5\" refY=\"5\" markerWidth=\"7\" markerHeight=\"7\" orient=\"auto\"><path d=\"M0 0 L10 5 L0 10 z\" fill=\"#1f2937\"/></marker>"
-    print "<marker id=\"call\" viewBox=\"0 0 10 10\" refX=\"5\" refY=\"5\" markerWidth=\"7\" markerHeight=\"7\" orient=\"auto\"><path d=\"M0 0 L10 5 L0 10 z\" fill=\"#b45309\"/></marker>"
+    marker("command", "#1f2937")
+    marker("call", "#b45309")
     print "</defs>"
-    print "<rect width=\"1164\" height=\"830\" fill=\"#ffffff\"/>"
+    print "<rect width='1164' height='830' fill='#ffffff'/>"
     printf "%s", one_line(1148, 58, "end", "title", "The states of a card, and what moves it")
-    print "<rect x=\"36\" y=\"92\" width=\"1112\" height=\"530\" rx=\"14\" class=\"frame\"/>"
-    print "<rect x=\"48\" y=\"126\" width=\"276\" height=\"484\" rx=\"10\" class=\"panel\"/>"
-    print "<rect x=\"372\" y=\"126\" width=\"764\" height=\"484\" rx=\"10\" class=\"panel\"/>"
+    print "<rect x='36' y='92' width='1112' height='530' rx='14' class='frame'/>"
+    print "<rect x='48' y='126' width='276' height='484' rx='10' class='panel'/>"
+    print "<rect x='372' y='126' width='764' height='484' rx='10' class='panel'/>"
     printf "%s", one_line(312, 148, "end", "head", "card identification")
     printf "%s", one_line(1122, 148, "end", "head", "data transfer")
 }
 
-function legend() {
+function legend(    words) {
     draw_arrow("M690 660 H738", "command")
     printf "%s", one_line(756, 665, "start", "label", "a command: from the table of moves")
     draw_arrow("M690 686 H738", "call")
     printf "%s", one_line(756, 691, "start", "called", "no command, not in the table: from document 01")
-    printf "%s", text("own: for this card's address; other: for another's; won: this card's identifier won the line. A command moves nothing where it is on no arrow and in no box, nor where its argument is wrong or the lock forbids it.", "690 724 start 57", "label")
+    words = "own: for this card's address; other: for another's; won: this card's identifier won the line. "
+    words = words "A command moves nothing where it is on no arrow and in no box, nor where its argument is wrong or the lock forbids it."
+    printf "%s", text(words, "690 724 start 57", "label")
 }
 
 END {
