@@ -12,8 +12,8 @@ use Rattle.lines.specs.Lines.{wordLine}
 use Rattle.bench.specs.Words.{takenWord, blockWord, doneWord, powerWord}
 use Rattle.lines.specs.Words.{lineWord, silentWord}
 use Rattle.bench.specs.Worlds.{withCard, goneOn, lentMemory, lentMap}
-use Rattle.bench.specs.declared.Calling.{Calling}
-use Rattle.bench.specs.declared.Calling.the-variants.{Frame, BlockIn, BlockOut, WorkDone, PowerOn}
+use Rattle.script.specs.declared.Calling.{Calling}
+use Rattle.script.specs.declared.Calling.the-variants.{Frame, BlockIn, BlockOut, WorkDone, PowerOn}
 use Rattle.bench.specs.declared.Said.{Said}
 use Rattle.bench.specs.declared.World.{World}
 use Rattle.card.specs.Sent.{sentBytes, sentWritten}

@@ -2,7 +2,6 @@ pub mod Calls
 pub mod Lines
 pub mod Looks
 pub mod Makes
-pub mod Reading
 pub mod Record
 pub mod Transcript
 pub mod Wires

@@ -9,9 +9,9 @@ use Rattle.lines.specs.Lines.{headText, numberText, hexText, endText, wordLine}
 use Rattle.bench.specs.Words.{memWord, lentWord, pokedWord}
 use Rattle.lines.specs.Words.{cardWord}
 use Rattle.bench.specs.Worlds.{withLent, ownMemory, ownMap}
-use Rattle.bench.specs.declared.Looking.{Looking}
-use Rattle.bench.specs.declared.Looking.the-variants.{Card, Memory, Lend, Poke}
-use Rattle.bench.specs.declared.Sizes.{Sizes}
+use Rattle.script.specs.declared.Looking.{Looking}
+use Rattle.script.specs.declared.Looking.the-variants.{Card, Memory, Lend, Poke}
+use Rattle.script.specs.declared.Sizes.{Sizes}
 use Rattle.bench.specs.declared.World.{World}
 use Rattle.record.specs.declared.Link.{Link}
 use Rattle.states.specs.States.{columnOf, numberOf}

@@ -5,13 +5,13 @@ use mathlib.Core.List.{List, _++_}
 use Prim.Native.Nat.{ℕ, _+_}
 use lib.ListN.{length, take, drop, replicate}
 use Rattle.lines.specs.Lines.{plainLine, refusalLine}
-use Rattle.bench.specs.Reading.{four}
+use Rattle.script.specs.Reading.{four}
 use Rattle.bench.specs.Words.{madeWord}
 use Rattle.bench.specs.Worlds.{goneOn, ended}
 use Rattle.lines.specs.Writing.{fronted}
-use Rattle.bench.specs.declared.Making.{Making}
+use Rattle.script.specs.declared.Making.{Making}
 use Rattle.bench.specs.declared.Said.{Said}
-use Rattle.bench.specs.declared.Sizes.{Sizes}
+use Rattle.script.specs.declared.Sizes.{Sizes}
 use Rattle.bench.specs.declared.World.{World}
 use Rattle.record.specs.Making.{madeOf}
 use Rattle.record.specs.declared.Card.{Card}

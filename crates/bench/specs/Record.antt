@@ -9,18 +9,18 @@ use Rattle.bench.specs.Calls.{memoryLent, mapLent, callText, callSaid, c
 use Rattle.lines.specs.Lines.{plainLine}
 use Rattle.bench.specs.Looks.{lookText, mapLooked, worldLooked, usedLooked}
 use Rattle.bench.specs.Makes.{memoryMade, mapMade, cardMade, makeText, makeSaid}
-use Rattle.bench.specs.Reading.{askedOf}
+use Rattle.script.specs.Reading.{askedOf}
 use Rattle.bench.specs.Wires.{wireText, usedWiring}
 use Rattle.bench.specs.Words.{noCardWord, tooBigWord}
 use Rattle.lines.specs.Words.{badKindWord, cutWord}
 use Rattle.bench.specs.Worlds.{counted, goneOn, ended}
-use Rattle.bench.specs.declared.Asked.{Asked}
-use Rattle.bench.specs.declared.Asked.the-variants as asked
-use Rattle.bench.specs.declared.Going.{Going}
-use Rattle.bench.specs.declared.Going.the-variants.{Call, Look, Wire}
+use Rattle.script.specs.declared.Asked.{Asked}
+use Rattle.script.specs.declared.Asked.the-variants as asked
+use Rattle.script.specs.declared.Going.{Going}
+use Rattle.script.specs.declared.Going.the-variants.{Call, Look, Wire}
 use Rattle.bench.specs.declared.Said.{Said}
-use Rattle.bench.specs.declared.Stop.{Stop}
-use Rattle.bench.specs.declared.Stop.the-variants.{Ended, NoCard, BadKind, Cut, TooBig}
+use Rattle.script.specs.declared.Stop.{Stop}
+use Rattle.script.specs.declared.Stop.the-variants.{Ended, NoCard, BadKind, Cut, TooBig}
 use Rattle.bench.specs.declared.World.{World}
 
 -- why a script stops: "An empty script prints nothing"

@@ -10,8 +10,8 @@ use Rattle.bench.specs.Calls.{blank}
 use Rattle.bench.specs.Lines.{refusedLine}
 use Rattle.lines.specs.Lines.{wordLine}
 use Rattle.bench.specs.Words.{frameWord, dataWord, goodWord}
-use Rattle.bench.specs.declared.Wiring.{Wiring}
-use Rattle.bench.specs.declared.Wiring.the-variants.{Frame, Block, Check}
+use Rattle.script.specs.declared.Wiring.{Wiring}
+use Rattle.script.specs.declared.Wiring.the-variants.{Frame, Block, Check}
 use Rattle.wire.specs.Blocks.{blockOf, blockWritten, checkedOf}
 use Rattle.wire.specs.Frames.{commandFrame, indexed}
 use Rattle.wire.specs.declared.Checked.{Checked}

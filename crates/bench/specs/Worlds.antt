@@ -9,7 +9,7 @@ use Rattle.base.specs.Choice.{pick}
 use Rattle.record.specs.Making.{refusedMake}
 use Rattle.record.specs.declared.Card.{Card}
 use Rattle.bench.specs.declared.Said.{Said}
-use Rattle.bench.specs.declared.Sizes.{Sizes}
+use Rattle.script.specs.declared.Sizes.{Sizes}
 use Rattle.bench.specs.declared.World.{World}
 
 -- before a script there is no card, and nothing is lent

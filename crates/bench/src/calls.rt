@@ -1,7 +1,6 @@
 // Kinds 02 to 06: the calls of the card.
 //
 // Offers: `called`.
-use crate::Calling;
 use crate::Said;
 use crate::World;
 use crate::make::fill;
@@ -21,6 +20,7 @@ use lines::parts::least;
 use lines::parts::part;
 use lines::text::say;
 use record::Registers;
+use script::Calling;
 ghost use mathlib.Core.Path.{_≡_};
 ghost use Prim.Native.Nat.{_+_, _*_, _≤_, _<_};
 ghost use lib.ListN.{length};

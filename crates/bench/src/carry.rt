@@ -1,10 +1,7 @@
 // What a record asks for, carried out: a function for each group of kinds.
 //
 // Offers: `obey`.
-use crate::Asked;
-use crate::Going;
 use crate::Said;
-use crate::Stop;
 use crate::World;
 use crate::calls::called;
 use crate::looks::looked;
@@ -13,6 +10,9 @@ use crate::wires::wired;
 use crate::worlds::counted;
 use crate::worlds::ends;
 use lines::text::plain;
+use script::Asked;
+use script::Going;
+use script::Stop;
 ghost use mathlib.Core.Path.{_≡_};
 ghost use Prim.Native.Nat.{_≤_};
 ghost use lib.ListN.{length};

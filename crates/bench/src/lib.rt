@@ -7,31 +7,24 @@
 // wants is used as far as it goes, and an output without room for every line is left alone, so
 // `record` has no `requires`.
 //
-// Offers: `Sizes`, `World`, `fresh`; `Said`, `record`.
+// Offers: `World`, `fresh`; `Said`, `record`.
 mod calls;
 mod carry;
 mod looks;
 mod make;
-mod read;
 mod text;
 mod wires;
 mod worlds;
 
 use carry::obey;
-use read::read;
 use record::Card;
+use script::Sizes;
 use worlds::ends;
 ghost use mathlib.Core.Path.{_≡_};
 ghost use mathlib.Core.List.{_++_};
 ghost use lib.ListN.{length, drop};
 ghost use Rattle.bench.specs.Record.{saidOf, memoryAfter, mapAfter, textOf};
 ghost use Rattle.bench.specs.Worlds.{freshWorld};
-
-// The bytes of a memory and of a map.
-pub struct Sizes {
-    pub memory: u32,
-    pub map: u8,
-}
 
 // What is kept from record to record: the card, if one was made; the sizes of its own memory and
 // map, and of what its calls are lent; how many records were carried out since the make.
@@ -50,61 +43,6 @@ pub struct Said {
     pub used: usize,
     pub wrote: usize,
     pub stops: bool,
-}
-
-// Why a script goes no further.
-pub enum Stop {
-    Ended,
-    NoCard,
-    BadKind,
-    Cut,
-    TooBig,
-}
-
-// A make: the memory's size and what it is filled with, the sizes of the map and the password.
-pub struct Making {
-    pub memory: u32,
-    pub fill: u8,
-    pub map: u8,
-    pub password: u8,
-}
-
-// A call of the card: a frame or a block in of so many bytes, a block out into so many.
-pub enum Calling {
-    Frame(u8),
-    BlockIn(u16),
-    BlockOut(u16),
-    WorkDone,
-    PowerOn,
-}
-
-// No call: what is shown of the card, what is lent from now on, and an entry of the map.
-pub enum Looking {
-    Card,
-    Memory { from: u32, length: u16 },
-    Lend(Sizes),
-    Poke { entry: u8, value: u8 },
-}
-
-// A call of the wire, which concerns no card.
-pub enum Wiring {
-    Frame { index: u8, argument: u32, room: u8 },
-    Block { length: u16, room: u16 },
-    Check(u16),
-}
-
-// What a record of a made card asks for.
-pub enum Going {
-    Call(Calling),
-    Look(Looking),
-    Wire(Wiring),
-}
-
-// What a record asks for.
-pub enum Asked {
-    Stop(Stop),
-    Make(Making),
-    Go(Going),
 }
 
 // Before a script: no card, for which the record of a refused make stands, and nothing lent.
@@ -139,6 +77,6 @@ pub fn record(
     if out.len() < 131136 {
         return ends(world, 0);
     }
-    let asked = read(world.made, script);
+    let asked = script::read(world.made, script);
     obey(world, asked, script, memory, map, out)
 }

@@ -1,9 +1,7 @@
 // Kinds 07 to 0A: what is shown and set with no call.
 //
 // Offers: `looked`.
-use crate::Looking;
 use crate::Said;
-use crate::Sizes;
 use crate::World;
 use crate::text::say_word;
 use crate::worlds::goes_on;
@@ -15,6 +13,8 @@ use lines::text::hexed;
 use lines::text::number;
 use lines::text::say;
 use record::Link;
+use script::Looking;
+use script::Sizes;
 use status::Errors;
 ghost use mathlib.Core.Path.{_≡_};
 ghost use Prim.Native.Nat.{_+_, _≤_};

@@ -1,11 +1,8 @@
 // Kind 01: a card made.
 //
 // Offers: `make`.
-use crate::Making;
 use crate::Said;
-use crate::Sizes;
 use crate::World;
-use crate::read::four;
 use crate::worlds::ends;
 use crate::worlds::goes_on;
 use lines::parts::front;
@@ -15,6 +12,9 @@ use lines::text::plain;
 use lines::text::refused_by;
 use record::Card;
 use record::Made;
+use script::Making;
+use script::Sizes;
+use script::numbers::four;
 ghost use mathlib.Core.Path.{_≡_};
 ghost use Prim.Native.Nat.{_+_, _≤_, _<_};
 ghost use lib.ListN.{length, take, drop, replicate};

@@ -2,7 +2,6 @@
 //
 // Offers: `wired`.
 use crate::Said;
-use crate::Wiring;
 use crate::World;
 use crate::calls::space;
 use crate::make::fill;
@@ -13,6 +12,7 @@ use crate::worlds::goes_on;
 use base::Written;
 use lines::parts::part;
 use lines::text::say;
+use script::Wiring;
 use wire::Checked;
 ghost use mathlib.Core.Path.{_≡_};
 ghost use Prim.Native.Nat.{_+_, _*_, _≤_};

@@ -2,9 +2,9 @@
 //
 // Offers: `counted`, `with_card`, `with_lent`, `goes_on`, `ends`.
 use crate::Said;
-use crate::Sizes;
 use crate::World;
 use record::Card;
+use script::Sizes;
 ghost use mathlib.Core.Path.{_≡_};
 ghost use Rattle.bench.specs.Worlds.{counted, withCard, withLent, goneOn, ended};
 

@@ -1,8 +1,0 @@
--- `bench::read::sized` meets its contract: each return is told its test.
--- Assumes nothing.
-use Rattle.base.proofs.Branch.{tests}
-use Rattle.bench.proofs.read.sized.Statement.{statement}
-use Rattle.bench.proofs.read.sized.Tie as tie
-
-pub sized-spec : {M : Type 1} → statement M
-sized-spec = tie.close (tie.spec (λ c. search tests) (λ c. search tests))

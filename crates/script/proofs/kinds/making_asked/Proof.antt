@@ -1,0 +1,29 @@
+-- `script::kinds::making_asked` meets its contract: its definition opened.
+-- Assumes nothing.
+use borrow.Author.Needs.{needs}
+use Rattle.script.specs.Reading.{makingAsked}
+use Rattle.script.proofs.kinds.making_asked.Statement.{statement}
+use Rattle.script.proofs.kinds.making_asked.Tie as tie
+
+returns : tie.Need-returns
+unfolding makingAsked
+returns c = simp (c .whole2 .ensures, c .before .whole .ensures, c .before .before .byte3 .ensures, c .before .before .before .byte2 .ensures, c .before .before .before .before .byte .ensures)
+
+pub making-asked-spec : {M : Type 1} → statement M
+making-asked-spec =
+    tie.close
+    (tie.spec
+    (λ c κs. search needs)
+    (λ c κs. search needs)
+    (λ c. search needs)
+    (λ c. search needs)
+    (λ c κs. search needs)
+    (λ c. search needs)
+    (λ c. search needs)
+    (λ c. search needs)
+    (λ c. search needs)
+    (λ c κs. search needs)
+    (λ c. search needs)
+    (λ c. search needs)
+    (λ c κs. search needs)
+    returns)

@@ -1,0 +1,22 @@
+-- `script::numbers::two` meets its contract: its definition opened.
+-- Assumes nothing.
+use borrow.Author.Needs.{needs}
+use Rattle.script.specs.Reading.{two}
+use Rattle.script.proofs.numbers.two.Statement.{statement}
+use Rattle.script.proofs.numbers.two.Tie as tie
+
+returns : tie.Need-returns
+unfolding two
+returns c = simp (c .further .ensures, c .before .byte .ensures)
+
+pub two-spec : {M : Type 1} → statement M
+two-spec =
+    tie.close
+    (tie.spec
+    (λ c κs. search needs)
+    (λ c. search needs)
+    (λ c. search needs)
+    (λ c κs. search needs)
+    (λ c. search needs)
+    (λ c. search needs)
+    returns)
