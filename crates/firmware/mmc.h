@@ -1,8 +1,19 @@
-/* What libfirmware.a offers C, on x86-64 Linux. Each call answers 0, or the number that document 01 gives its refusal, and a
-   refused call writes nothing. A pointer to bytes is never null and comes with how many there are; what a call writes to
-   overlaps nothing else that it is given. */
+/* What libfirmware.a offers C: one MultiMediaCard, and the check sums, frames and blocks that it speaks in. For x86-64 Linux.
+
+   Every call is proved to do what document 01 says, for every value of every number and byte that it is given. What it can't check it
+   asks of its caller:
+     - no pointer is null, and each points to as many bytes as the length behind it says, or as the comment says where there is none;
+     - what a call writes to overlaps nothing else that it is given;
+     - while a call runs, nobody else writes what it reads, or reads or writes what it writes.
+   No call keeps a pointer, allocates, waits, or calls anything of the C library but memcpy, memmove and memset. A call writes nothing but
+   what its comment says.
+
+   A call answers 0 where it was carried out, else the number that document 01 gives its refusal; a comment lists the numbers in the order
+   in which they are looked for. A refused call leaves everything as it was but for what its comment says. */
 #ifndef MMC_H
 #define MMC_H
+
+/* ---- check sums, frames and blocks */
 
 /* The check sums of any bytes. */
 unsigned char mmc_crc7(const unsigned char *bytes, unsigned long length);
@@ -19,5 +30,133 @@ unsigned char mmc_write_block(const unsigned char *payload, unsigned long length
 
 /* A block with its CRC16 checked: 5, 17. */
 unsigned char mmc_check_block(const unsigned char *block, unsigned long length);
+
+/* ---- the record of a card
+
+   It belongs to the caller, who lends it to each call. Its bytes may be copied, kept over a loss of power and put back: any bytes stand for
+   some card, and every call answers them. A number that is wider than its field counts by its low bits. */
+
+/* `state`, with what a data state waits for. 13 and every number above it is Inactive. */
+enum mmc_state {
+    MMC_IDLE = 0,
+    MMC_READY = 1,
+    MMC_IDENT = 2,
+    MMC_STBY = 3,
+    MMC_TRAN = 4,
+    MMC_DATA_ONE = 5,        /* one block to send, from address `at` on */
+    MMC_DATA_MANY = 6,       /* block after block, the next one from address `at` on */
+    MMC_DATA_PROTECTION = 7, /* the protection bits, from group `at` on */
+    MMC_RCV_ONE = 8,         /* one block to store at address `at` */
+    MMC_RCV_MANY = 9,        /* block after block, the next one at address `at` */
+    MMC_RCV_LOCK = 10,       /* a lock request */
+    MMC_PRG = 11,
+    MMC_DIS = 12,
+    MMC_INA = 13
+};
+
+/* `tags`. Every number above 4 is none. */
+enum mmc_tags {
+    MMC_TAGS_NONE = 0,
+    MMC_TAGS_SECTOR_START = 1, /* a start alone, sector `first` */
+    MMC_TAGS_GROUP_START = 2,  /* a start alone, erase group `first` */
+    MMC_TAGS_SECTORS = 3,      /* sectors `first` to `last`, both within */
+    MMC_TAGS_GROUPS = 4        /* erase groups `first` to `last`, both within */
+};
+
+struct mmc_numbers {
+    unsigned int state;           /* enum mmc_state */
+    unsigned int at;              /* what `state` carries, else 0 */
+    unsigned int address;         /* the card's address on the bus, 16 bits */
+    unsigned int length;          /* the block length, 16 bits */
+    unsigned int errors;          /* the error bits that wait for the next R1, each in its place of the status */
+    unsigned int tags;            /* enum mmc_tags */
+    unsigned int first, last;     /* what `tags` carries, else 0 */
+    unsigned int locked;          /* 1 where the card is locked */
+    unsigned int password_length; /* 8 bits; 0 where there is no password */
+    unsigned int groups;          /* the size of the memory in groups of 8,192 bytes, 16 bits */
+    unsigned int ocr;
+};
+_Static_assert(sizeof(struct mmc_numbers) == 12 * sizeof(unsigned int), "the calls below take twelve numbers");
+
+struct mmc_card {
+    struct mmc_numbers numbers;
+    unsigned char cid[16], csd[16]; /* as the card was made with; no call changes them but a make */
+    unsigned char password[16];     /* its first `password_length` bytes; no call changes them but a make and a block in */
+};
+
+/* The longest answer to a frame, R2; the others have 6 bytes. */
+enum { MMC_ANSWER = 17 };
+
+/* The calls as the archive has them, each with the record in its parts. Take the ones below, which have it whole. */
+unsigned char mmc_parts_make(struct mmc_numbers *numbers, unsigned char *cid, unsigned char *csd, unsigned char *password,
+                             const unsigned char *identifier, const unsigned char *specifics, unsigned int ocr,
+                             const unsigned char *secret, unsigned long secret_length, const unsigned char *memory,
+                             unsigned long size, const unsigned char *map, unsigned long groups);
+void mmc_parts_power_on(struct mmc_numbers *numbers, const unsigned char *cid, const unsigned char *csd, const unsigned char *password);
+void mmc_parts_work_done(struct mmc_numbers *numbers, const unsigned char *cid, const unsigned char *csd, const unsigned char *password);
+unsigned char mmc_parts_frame(struct mmc_numbers *numbers, const unsigned char *cid, const unsigned char *csd, const unsigned char *password,
+                              const unsigned char *frame, unsigned long length, unsigned char *memory, unsigned long size,
+                              unsigned char *map, unsigned long groups, unsigned char *answer, unsigned long *sent);
+unsigned char mmc_parts_block_in(struct mmc_numbers *numbers, const unsigned char *cid, const unsigned char *csd, unsigned char *password,
+                                 const unsigned char *block, unsigned long length, unsigned char *memory, unsigned long size,
+                                 unsigned char *map, unsigned long groups);
+unsigned char mmc_parts_block_out(struct mmc_numbers *numbers, const unsigned char *cid, const unsigned char *csd,
+                                  const unsigned char *password, const unsigned char *memory, unsigned long size,
+                                  const unsigned char *map, unsigned long groups, unsigned char *out, unsigned long room,
+                                  unsigned long *written);
+
+/* ---- the calls of a card
+
+   The memory, and the map with a byte for each 8,192 bytes of it, 0 or 1, belong to the caller. A card does not hold them: it is lent them at
+   each call, and the caller lends the same ones every time. */
+
+/* A card made, as after power-on: 7, 8, 9, 10, 11. `cid` and `csd` have 16 bytes and are not those of `card`; `password` may have 0 bytes.
+   Memory and map are looked at and left alone: a unit that begins with an erased card fills the memory with 0xFF itself.
+   A refused make leaves one fixed record, Inactive and all zeros, whatever `card` was. */
+static inline unsigned char mmc_card_make(struct mmc_card *card, const unsigned char *cid, const unsigned char *csd, unsigned int ocr,
+                                          const unsigned char *password, unsigned long password_length, const unsigned char *memory,
+                                          unsigned long size, const unsigned char *map, unsigned long groups)
+{
+    return mmc_parts_make(&card->numbers, card->cid, card->csd, card->password, cid, csd, ocr, password, password_length, memory, size, map,
+                          groups);
+}
+
+/* Power-on: Idle, and locked exactly if there is a password. Never refused. */
+static inline void mmc_card_power_on(struct mmc_card *card)
+{
+    mmc_parts_power_on(&card->numbers, card->cid, card->csd, card->password);
+}
+
+/* The work of prg or dis is done: the card goes to tran or stby, and in any other state stays as it is. Never refused. */
+static inline void mmc_card_work_done(struct mmc_card *card)
+{
+    mmc_parts_work_done(&card->numbers, card->cid, card->csd, card->password);
+}
+
+/* A frame from the line: 12, 1, 2, 3. What the card sends, 0, 6 or 17 bytes, is written to the front of `answer`, which has MMC_ANSWER bytes,
+   and how many to `sent`: 0 where it is silent or the frame is refused. CMD28 and CMD29 change the map, CMD38 the memory.
+   Of the refused ones 3 sets error bit 23, unless the card is Inactive. */
+static inline unsigned char mmc_card_frame(struct mmc_card *card, const unsigned char *frame, unsigned long length, unsigned char *memory,
+                                           unsigned long size, unsigned char *map, unsigned long groups, unsigned char *answer,
+                                           unsigned long *sent)
+{
+    return mmc_parts_frame(&card->numbers, card->cid, card->csd, card->password, frame, length, memory, size, map, groups, answer, sent);
+}
+
+/* A block from the line, its CRC16 with it: 12, 15, 16, 17, 18, 19 or 20. A write's is stored; a lock request's changes the password or the
+   lock, and a forced erase memory and map. Of the refused ones 16 to 20 set the error bit, and end the wait, as document 01 says. */
+static inline unsigned char mmc_card_block_in(struct mmc_card *card, const unsigned char *block, unsigned long length, unsigned char *memory,
+                                              unsigned long size, unsigned char *map, unsigned long groups)
+{
+    return mmc_parts_block_in(&card->numbers, card->cid, card->csd, card->password, block, length, memory, size, map, groups);
+}
+
+/* A block for the line, its CRC16 with it, written to the front of `out`: 12, 15, 6, 18, 21. How many bytes it has, at most 2,050, is written to
+   `written`: 0 where it is refused. Of the refused ones 18 sets error bit 31 and 21 error bit 30. */
+static inline unsigned char mmc_card_block_out(struct mmc_card *card, const unsigned char *memory, unsigned long size, const unsigned char *map,
+                                               unsigned long groups, unsigned char *out, unsigned long room, unsigned long *written)
+{
+    return mmc_parts_block_out(&card->numbers, card->cid, card->csd, card->password, memory, size, map, groups, out, room, written);
+}
 
 #endif

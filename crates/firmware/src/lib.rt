@@ -4,7 +4,17 @@
 //
 // Offers: `mmc_crc7`, `mmc_crc16`, `mmc_read_frame`, `mmc_write_command`, `mmc_write_block`,
 // `mmc_check_block`.
+mod calls;
+mod taken;
+mod told;
+
 use base::Written;
+pub use calls::mmc_parts_block_in;
+pub use calls::mmc_parts_block_out;
+pub use calls::mmc_parts_frame;
+pub use calls::mmc_parts_make;
+pub use calls::mmc_parts_power_on;
+pub use calls::mmc_parts_work_done;
 use wire::Checked;
 use wire::Frame;
 ghost use mathlib.Core.Path.{_≡_};

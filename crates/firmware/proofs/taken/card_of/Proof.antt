@@ -1,0 +1,31 @@
+-- `firmware::taken::card_of` meets its contract: each number read in its place.
+-- Assumes nothing.
+use borrow.Author.Needs.{needs}
+use Rattle.firmware.specs.Record.{cardOf}
+use Rattle.firmware.proofs.taken.card_of.Statement.{statement}
+use Rattle.firmware.proofs.taken.card_of.Tie as tie
+
+pub card-of-spec : {M : Type 1} → statement M
+unfolding cardOf
+card-of-spec =
+    tie.close
+    (tie.spec
+    (λ c. search needs)
+    (λ c. search needs)
+    (λ c. search needs)
+    (λ c. search needs)
+    (λ c. search needs)
+    (λ c. search needs)
+    (λ c. search needs)
+    (λ c. search needs)
+    (λ c κs. search needs)
+    (λ c. search needs)
+    (λ c. search needs)
+    (λ c. search needs)
+    (λ c. search needs)
+    (λ c. search needs)
+    (λ c. search needs)
+    (λ c. search needs)
+    (λ c. search needs)
+    (λ c κs. search needs)
+    (λ c. simp (c .tags-by .ensures, c .before .state-of .ensures)))

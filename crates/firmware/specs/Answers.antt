@@ -1,0 +1,24 @@
+-- What a call at a card tells C beside the record.
+-- Assumes nothing.
+use Prim.Native.Nat.{ℕ}
+use Rattle.base.specs.Refusals.{numberOf}
+use Rattle.card.specs.declared.Outcome.{Outcome}
+use Rattle.card.specs.declared.Outcome.the-variants.{Done, Wrote, Refused}
+use Rattle.record.specs.declared.Making.{Making}
+use Rattle.record.specs.declared.Making.the-variants.{Done as Made, Refused as NotMade}
+
+-- 0 for a call that was carried out, else the number of its refusal
+abbrev pub outcomeNumber : Outcome → ℕ
+outcomeNumber Done = 0
+outcomeNumber (Wrote n) = 0
+outcomeNumber (Refused refusal) = numberOf refusal
+
+abbrev pub makingNumber : Making → ℕ
+makingNumber Made = 0
+makingNumber (NotMade refusal) = numberOf refusal
+
+-- how many bytes a block out wrote
+abbrev pub wroteOf : Outcome → ℕ
+wroteOf Done = 0
+wroteOf (Wrote n) = n
+wroteOf (Refused refusal) = 0

@@ -1,0 +1,149 @@
+-- A card's record as C holds it: twelve numbers, and the 16 bytes each of the CID, the CSD and the password. The record that any numbers and
+-- bytes stand for, and the numbers of a record. That nothing is lost between the two is the theorem of proofs/Crossing.antt.
+-- Assumes nothing.
+use mathlib.Core.Bool.{Bool}
+use mathlib.Core.List.{List, [], _∷_}
+use Prim.Native.Nat.{ℕ, _%_, _<_}
+use lib.Dec.{eqb}
+use lib.ListN.{getD}
+use Rattle.base.specs.Choice.{pick}
+use Rattle.record.specs.declared.Card.{Card}
+use Rattle.states.specs.declared.Incoming.{Incoming}
+use Rattle.states.specs.declared.Incoming.the-variants.{One as OneIn, Many as ManyIn, LockRequest}
+use Rattle.states.specs.declared.Outgoing.{Outgoing}
+use Rattle.states.specs.declared.Outgoing.the-variants.{One, Many, Protection}
+use Rattle.states.specs.declared.State.{State}
+use Rattle.states.specs.declared.State.the-variants.{Idle, Ready, Ident, Stby, Tran, Data, Rcv, Prg, Dis, Ina}
+use Rattle.tags.specs.Tagging.{tagsOf}
+use Rattle.tags.specs.declared.Kind.{Kind}
+use Rattle.tags.specs.declared.Kind.the-variants.{Sectors, Groups}
+use Rattle.tags.specs.declared.Range.{Range}
+use Rattle.tags.specs.declared.Range.the-variants.{Nothing, Start, Full}
+use Rattle.tags.specs.declared.Tags.{Tags}
+
+-- ---- from numbers to a record
+-- the state of a number, with the place that it carries; 13 and every number above it is Inactive
+unfoldable pub stateOf : ℕ → ℕ → State
+stateOf number at =
+    pick (eqb number 0) Idle
+    (pick (eqb number 1) Ready
+    (pick (eqb number 2) Ident
+    (pick (eqb number 3) Stby
+    (pick (eqb number 4) Tran
+    (pick (eqb number 5) (Data (One at))
+    (pick (eqb number 6) (Data (Many at))
+    (pick (eqb number 7) (Data (Protection at))
+    (pick (eqb number 8) (Rcv (OneIn at))
+    (pick (eqb number 9) (Rcv (ManyIn at))
+    (pick (eqb number 10) (Rcv LockRequest) (pick (eqb number 11) Prg (pick (eqb number 12) Dis Ina))))))))))))
+
+-- the tags of a number and two places; 0 and every number above 4 is none
+unfoldable pub tagsBy : ℕ → ℕ → ℕ → Tags
+tagsBy number first last =
+    tagsOf
+    (pick (eqb number 1) (Start Sectors first)
+    (pick (eqb number 2) (Start Groups first)
+    (pick (eqb number 3) (Full Sectors first last) (pick (eqb number 4) (Full Groups first last) Nothing))))
+
+-- the record of twelve numbers, a CID, a CSD and a password: of a number that is wider than its field the low bits count
+unfoldable pub cardOf : List ℕ → List ℕ → List ℕ → List ℕ → Card
+cardOf numbers cid csd password =
+    record {
+      registers = record { cid = cid; csd = csd; ocr = getD numbers 11 0; groups = getD numbers 10 0 % 65536 };
+      lock = record { password = password; length = getD numbers 9 0 % 256; locked = eqb (getD numbers 8 0) 1 };
+      link =
+          record {
+            state = stateOf (getD numbers 0 0) (getD numbers 1 0);
+            address = getD numbers 2 0 % 65536;
+            length = getD numbers 3 0 % 65536;
+            errors = record { bits = getD numbers 4 0 };
+            tags = tagsBy (getD numbers 5 0) (getD numbers 6 0) (getD numbers 7 0);
+          };
+    }
+
+-- ---- from a record to numbers
+abbrev pub outgoingNumber : Outgoing → ℕ
+outgoingNumber (One at) = 5
+outgoingNumber (Many at) = 6
+outgoingNumber (Protection group) = 7
+
+abbrev pub incomingNumber : Incoming → ℕ
+incomingNumber (OneIn at) = 8
+incomingNumber (ManyIn at) = 9
+incomingNumber LockRequest = 10
+
+abbrev pub stateNumber : State → ℕ
+stateNumber Idle = 0
+stateNumber Ready = 1
+stateNumber Ident = 2
+stateNumber Stby = 3
+stateNumber Tran = 4
+stateNumber (Data outgoing) = outgoingNumber outgoing
+stateNumber (Rcv incoming) = incomingNumber incoming
+stateNumber Prg = 11
+stateNumber Dis = 12
+stateNumber Ina = 13
+
+-- the place that a state carries: an address, or a protection group; 0 where it carries none
+abbrev pub outgoingAt : Outgoing → ℕ
+outgoingAt (One at) = at
+outgoingAt (Many at) = at
+outgoingAt (Protection group) = group
+
+abbrev pub incomingAt : Incoming → ℕ
+incomingAt (OneIn at) = at
+incomingAt (ManyIn at) = at
+incomingAt LockRequest = 0
+
+abbrev pub stateAt : State → ℕ
+stateAt Idle = 0
+stateAt Ready = 0
+stateAt Ident = 0
+stateAt Stby = 0
+stateAt Tran = 0
+stateAt (Data outgoing) = outgoingAt outgoing
+stateAt (Rcv incoming) = incomingAt incoming
+stateAt Prg = 0
+stateAt Dis = 0
+stateAt Ina = 0
+
+abbrev pub startNumber : Kind → ℕ
+startNumber Sectors = 1
+startNumber Groups = 2
+
+abbrev pub fullNumber : Kind → ℕ
+fullNumber Sectors = 3
+fullNumber Groups = 4
+
+abbrev pub tagsNumber : Range → ℕ
+tagsNumber Nothing = 0
+tagsNumber (Start kind first) = startNumber kind
+tagsNumber (Full kind first last) = fullNumber kind
+
+abbrev pub firstOf : Range → ℕ
+firstOf Nothing = 0
+firstOf (Start kind first) = first
+firstOf (Full kind first last) = first
+
+abbrev pub lastOf : Range → ℕ
+lastOf Nothing = 0
+lastOf (Start kind first) = 0
+lastOf (Full kind first last) = last
+
+abbrev pub flag : Bool → ℕ
+flag is = pick is 1 0
+
+-- the twelve numbers of a record, in the order in which mmc.h names them
+unfoldable pub numbersOf : Card → List ℕ
+numbersOf card =
+    stateNumber (card .link .state) ∷ stateAt (card .link .state) ∷ card .link .address ∷ card .link .length ∷ card .link .errors .bits ∷
+    tagsNumber (card .link .tags .range) ∷ firstOf (card .link .tags .range) ∷ lastOf (card .link .tags .range) ∷ flag (card .lock .locked) ∷
+    card .lock .length ∷ card .registers .groups ∷ card .registers .ocr ∷ []
+
+-- a record whose numbers are within the widths of their fields, 16 and 8 bits: every value of the type is. The other numbers have the 32 bits
+-- of the numbers that C holds
+pub record Within (card : Card) : Type 0 where
+  pub address : card .link .address < 65536
+  pub length : card .link .length < 65536
+  pub password-length : card .lock .length < 256
+  pub groups : card .registers .groups < 65536

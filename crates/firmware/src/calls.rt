@@ -1,0 +1,195 @@
+// The calls of one card for C. A record crosses in four parts, which mmc.h puts together as one:
+// twelve numbers, and the bytes of the CID, the CSD and the password. Each call takes the record
+// that they stand for (taken.rt), calls the card, and tells the next one (told.rt); its promise is
+// that of the card's call, of every lent number and byte. `stands` says that the parts afterwards
+// stand for the card's next record, so that a row of calls from C is the same row at the card.
+use crate::taken::card_of;
+use crate::told::making_number;
+use crate::told::numbers_of;
+use crate::told::outcome_number;
+use crate::told::wrote;
+use base::Written;
+ghost use mathlib.Core.Path.{_≡_};
+ghost use lib.ListN.{length};
+ghost use Rattle.base.specs.Output.{laid, bytesOf};
+ghost use Rattle.card.specs.BlockIn.{blockJudged, keptOf, storedBy, clearedBy};
+ghost use Rattle.card.specs.BlockOut.{outJudged, sentOut};
+ghost use Rattle.card.specs.Frame.{frameOf, frameJudged, erasedBy, protectedBy};
+ghost use Rattle.card.specs.Sent.{sentBytes, sentWritten};
+ghost use Rattle.record.specs.Making.{madeOf};
+ghost use Rattle.record.specs.Power.{poweredOn, worked};
+ghost use Rattle.firmware.specs.Answers.{outcomeNumber, makingNumber, wroteOf};
+ghost use Rattle.firmware.specs.Record.{cardOf, numbersOf};
+
+// A card made: 7, 8, 9, 10, 11. A refused make leaves the one record that document 01 lets it
+// leave, Inactive and all zeros.
+#[no_mangle]
+pub extern "C" fn mmc_parts_make(
+    numbers: &mut [u32; 12],
+    cid: &mut [u8; 16],
+    csd: &mut [u8; 16],
+    password: &mut [u8; 16],
+    identifier: &[u8; 16],
+    specifics: &[u8; 16],
+    ocr: u32,
+    secret: &[u8],
+    memory: &[u8],
+    map: &[u8],
+) -> u8
+    ensures answer { λ r. ⌜ r ≡ makingNumber (madeOf (now (identifier .entry)) (now (specifics .entry)) ocr (now (secret .entry)) (length (now (memory .entry))) (now (map .entry)) .making) ⌝ }
+    ensures numbers { λ _. ⌜ now (numbers .exit) ≡ numbersOf (madeOf (now (identifier .entry)) (now (specifics .entry)) ocr (now (secret .entry)) (length (now (memory .entry))) (now (map .entry)) .card) ⌝ }
+    ensures cid { λ _. ⌜ now (cid .exit) ≡ madeOf (now (identifier .entry)) (now (specifics .entry)) ocr (now (secret .entry)) (length (now (memory .entry))) (now (map .entry)) .card .registers .cid ⌝ }
+    ensures csd { λ _. ⌜ now (csd .exit) ≡ madeOf (now (identifier .entry)) (now (specifics .entry)) ocr (now (secret .entry)) (length (now (memory .entry))) (now (map .entry)) .card .registers .csd ⌝ }
+    ensures password { λ _. ⌜ now (password .exit) ≡ madeOf (now (identifier .entry)) (now (specifics .entry)) ocr (now (secret .entry)) (length (now (memory .entry))) (now (map .entry)) .card .lock .password ⌝ }
+    ensures stands { λ _. ⌜ cardOf (now (numbers .exit)) (now (cid .exit)) (now (csd .exit)) (now (password .exit)) ≡ madeOf (now (identifier .entry)) (now (specifics .entry)) ocr (now (secret .entry)) (length (now (memory .entry))) (now (map .entry)) .card ⌝ }
+{
+    let made = record::make(*identifier, *specifics, ocr, secret, memory, map);
+    let card = made.card;
+    let making = made.making;
+    let registers = card.registers;
+    let lock = card.lock;
+    let made_cid = registers.cid;
+    let made_csd = registers.csd;
+    let made_password = lock.password;
+    *numbers = numbers_of(card);
+    *cid = made_cid;
+    *csd = made_csd;
+    *password = made_password;
+    making_number(making)
+}
+
+// Power-on, from any state: never refused.
+#[no_mangle]
+pub extern "C" fn mmc_parts_power_on(
+    numbers: &mut [u32; 12],
+    cid: &[u8; 16],
+    csd: &[u8; 16],
+    password: &[u8; 16],
+)
+    ensures numbers { λ _. ⌜ now (numbers .exit) ≡ numbersOf (poweredOn (cardOf (now (numbers .entry)) (now (cid .entry)) (now (csd .entry)) (now (password .entry)))) ⌝ }
+    ensures stands { λ _. ⌜ cardOf (now (numbers .exit)) (now (cid .entry)) (now (csd .entry)) (now (password .entry)) ≡ poweredOn (cardOf (now (numbers .entry)) (now (cid .entry)) (now (csd .entry)) (now (password .entry))) ⌝ }
+{
+    let card = card_of(*numbers, *cid, *csd, *password);
+    let next = record::power_on(card);
+    *numbers = numbers_of(next);
+}
+
+// Work done: never refused.
+#[no_mangle]
+pub extern "C" fn mmc_parts_work_done(
+    numbers: &mut [u32; 12],
+    cid: &[u8; 16],
+    csd: &[u8; 16],
+    password: &[u8; 16],
+)
+    ensures numbers { λ _. ⌜ now (numbers .exit) ≡ numbersOf (worked (cardOf (now (numbers .entry)) (now (cid .entry)) (now (csd .entry)) (now (password .entry)))) ⌝ }
+    ensures stands { λ _. ⌜ cardOf (now (numbers .exit)) (now (cid .entry)) (now (csd .entry)) (now (password .entry)) ≡ worked (cardOf (now (numbers .entry)) (now (cid .entry)) (now (csd .entry)) (now (password .entry))) ⌝ }
+{
+    let card = card_of(*numbers, *cid, *csd, *password);
+    let next = record::work_done(card);
+    *numbers = numbers_of(next);
+}
+
+// How many bytes at the front of an answer are the card's.
+fn bytes_of(written: Written) -> usize
+    ensures { λ r. ⌜ r ≡ bytesOf written ⌝ }
+{
+    match written {
+        Written::Bytes(n) => n,
+        Written::Refused(_) => 0,
+    }
+}
+
+// A frame: 12, 1, 2, 3. What the card sends goes to the front of `answer`, which is as long as the
+// longest answer, and how many bytes it sends to `sent`.
+#[no_mangle]
+pub extern "C" fn mmc_parts_frame(
+    numbers: &mut [u32; 12],
+    cid: &[u8; 16],
+    csd: &[u8; 16],
+    password: &[u8; 16],
+    frame: &[u8],
+    memory: &mut [u8],
+    map: &mut [u8],
+    answer: &mut [u8; 17],
+    sent: &mut usize,
+) -> u8
+    ensures answer { λ r. ⌜ r ≡ outcomeNumber (frameOf (cardOf (now (numbers .entry)) (now (cid .entry)) (now (csd .entry)) (now (password .entry))) (now (frame .entry)) (length (now (memory .entry))) (now (map .entry)) .reply .outcome) ⌝ }
+    ensures numbers { λ _. ⌜ now (numbers .exit) ≡ numbersOf (frameOf (cardOf (now (numbers .entry)) (now (cid .entry)) (now (csd .entry)) (now (password .entry))) (now (frame .entry)) (length (now (memory .entry))) (now (map .entry)) .card) ⌝ }
+    ensures stands { λ _. ⌜ cardOf (now (numbers .exit)) (now (cid .entry)) (now (csd .entry)) (now (password .entry)) ≡ frameOf (cardOf (now (numbers .entry)) (now (cid .entry)) (now (csd .entry)) (now (password .entry))) (now (frame .entry)) (length (now (memory .entry))) (now (map .entry)) .card ⌝ }
+    ensures memory { λ _. ⌜ now (memory .exit) ≡ erasedBy (cardOf (now (numbers .entry)) (now (cid .entry)) (now (csd .entry)) (now (password .entry))) (now (memory .entry)) (now (map .entry)) (frameJudged (cardOf (now (numbers .entry)) (now (cid .entry)) (now (csd .entry)) (now (password .entry))) (now (frame .entry)) (length (now (memory .entry))) (now (map .entry)) .change) ⌝ }
+    ensures map { λ _. ⌜ now (map .exit) ≡ protectedBy (now (map .entry)) (frameJudged (cardOf (now (numbers .entry)) (now (cid .entry)) (now (csd .entry)) (now (password .entry))) (now (frame .entry)) (length (now (memory .entry))) (now (map .entry)) .change) ⌝ }
+    ensures bytes { λ _. ⌜ now (answer .exit) ≡ laid (sentWritten ((cardOf (now (numbers .entry)) (now (cid .entry)) (now (csd .entry)) (now (password .entry))) .registers) (frameOf (cardOf (now (numbers .entry)) (now (cid .entry)) (now (csd .entry)) (now (password .entry))) (now (frame .entry)) (length (now (memory .entry))) (now (map .entry)) .reply .sent) (now (answer .entry))) (sentBytes ((cardOf (now (numbers .entry)) (now (cid .entry)) (now (csd .entry)) (now (password .entry))) .registers) (frameOf (cardOf (now (numbers .entry)) (now (cid .entry)) (now (csd .entry)) (now (password .entry))) (now (frame .entry)) (length (now (memory .entry))) (now (map .entry)) .reply .sent)) (now (answer .entry)) ⌝ }
+    ensures sent { λ _. ⌜ now (sent .exit) ≡ bytesOf (sentWritten ((cardOf (now (numbers .entry)) (now (cid .entry)) (now (csd .entry)) (now (password .entry))) .registers) (frameOf (cardOf (now (numbers .entry)) (now (cid .entry)) (now (csd .entry)) (now (password .entry))) (now (frame .entry)) (length (now (memory .entry))) (now (map .entry)) .reply .sent) (now (answer .entry))) ⌝ }
+{
+    let card = card_of(*numbers, *cid, *csd, *password);
+    let registers = card.registers;
+    let stepped = card::frame(card, frame, memory, map);
+    let next = stepped.card;
+    let reply = stepped.reply;
+    let outcome = reply.outcome;
+    let sends = reply.sent;
+    *numbers = numbers_of(next);
+    let written = card::write_sent(registers, sends, answer);
+    *sent = bytes_of(written);
+    outcome_number(outcome)
+}
+
+// A block in: 12, 15, 16, 17, 18, 19 or 20. Only this call may change the password.
+#[no_mangle]
+pub extern "C" fn mmc_parts_block_in(
+    numbers: &mut [u32; 12],
+    cid: &[u8; 16],
+    csd: &[u8; 16],
+    password: &mut [u8; 16],
+    block: &[u8],
+    memory: &mut [u8],
+    map: &mut [u8],
+) -> u8
+    ensures answer { λ r. ⌜ r ≡ outcomeNumber (blockJudged (cardOf (now (numbers .entry)) (now (cid .entry)) (now (csd .entry)) (now (password .entry))) (now (block .entry)) (length (now (memory .entry))) (now (map .entry)) .stepped .reply .outcome) ⌝ }
+    ensures numbers { λ _. ⌜ now (numbers .exit) ≡ numbersOf (blockJudged (cardOf (now (numbers .entry)) (now (cid .entry)) (now (csd .entry)) (now (password .entry))) (now (block .entry)) (length (now (memory .entry))) (now (map .entry)) .stepped .card) ⌝ }
+    ensures password { λ _. ⌜ now (password .exit) ≡ blockJudged (cardOf (now (numbers .entry)) (now (cid .entry)) (now (csd .entry)) (now (password .entry))) (now (block .entry)) (length (now (memory .entry))) (now (map .entry)) .stepped .card .lock .password ⌝ }
+    ensures stands { λ _. ⌜ cardOf (now (numbers .exit)) (now (cid .entry)) (now (csd .entry)) (now (password .exit)) ≡ blockJudged (cardOf (now (numbers .entry)) (now (cid .entry)) (now (csd .entry)) (now (password .entry))) (now (block .entry)) (length (now (memory .entry))) (now (map .entry)) .stepped .card ⌝ }
+    ensures memory { λ _. ⌜ now (memory .exit) ≡ storedBy (keptOf (now (block .entry))) (now (memory .entry)) (blockJudged (cardOf (now (numbers .entry)) (now (cid .entry)) (now (csd .entry)) (now (password .entry))) (now (block .entry)) (length (now (memory .entry))) (now (map .entry)) .storing) ⌝ }
+    ensures map { λ _. ⌜ now (map .exit) ≡ clearedBy (now (map .entry)) (blockJudged (cardOf (now (numbers .entry)) (now (cid .entry)) (now (csd .entry)) (now (password .entry))) (now (block .entry)) (length (now (memory .entry))) (now (map .entry)) .storing) ⌝ }
+{
+    let card = card_of(*numbers, *cid, *csd, *password);
+    let stepped = card::block_in(card, block, memory, map);
+    let next = stepped.card;
+    let reply = stepped.reply;
+    let outcome = reply.outcome;
+    let lock = next.lock;
+    let stored = lock.password;
+    *numbers = numbers_of(next);
+    *password = stored;
+    outcome_number(outcome)
+}
+
+// A block out: 12, 15, 6, 18, 21. How many bytes at the front of `out` are the block goes to
+// `written`.
+#[no_mangle]
+pub extern "C" fn mmc_parts_block_out(
+    numbers: &mut [u32; 12],
+    cid: &[u8; 16],
+    csd: &[u8; 16],
+    password: &[u8; 16],
+    memory: &[u8],
+    map: &[u8],
+    out: &mut [u8],
+    written: &mut usize,
+) -> u8
+    ensures answer { λ r. ⌜ r ≡ outcomeNumber (outJudged (cardOf (now (numbers .entry)) (now (cid .entry)) (now (csd .entry)) (now (password .entry))) (length (now (memory .entry))) (now (map .entry)) (length (now (out .entry))) .stepped .reply .outcome) ⌝ }
+    ensures numbers { λ _. ⌜ now (numbers .exit) ≡ numbersOf (outJudged (cardOf (now (numbers .entry)) (now (cid .entry)) (now (csd .entry)) (now (password .entry))) (length (now (memory .entry))) (now (map .entry)) (length (now (out .entry))) .stepped .card) ⌝ }
+    ensures stands { λ _. ⌜ cardOf (now (numbers .exit)) (now (cid .entry)) (now (csd .entry)) (now (password .entry)) ≡ outJudged (cardOf (now (numbers .entry)) (now (cid .entry)) (now (csd .entry)) (now (password .entry))) (length (now (memory .entry))) (now (map .entry)) (length (now (out .entry))) .stepped .card ⌝ }
+    ensures output { λ _. ⌜ now (out .exit) ≡ sentOut (now (memory .entry)) (now (map .entry)) (now (out .entry)) (outJudged (cardOf (now (numbers .entry)) (now (cid .entry)) (now (csd .entry)) (now (password .entry))) (length (now (memory .entry))) (now (map .entry)) (length (now (out .entry))) .sending) ⌝ }
+    ensures written { λ _. ⌜ now (written .exit) ≡ wroteOf (outJudged (cardOf (now (numbers .entry)) (now (cid .entry)) (now (csd .entry)) (now (password .entry))) (length (now (memory .entry))) (now (map .entry)) (length (now (out .entry))) .stepped .reply .outcome) ⌝ }
+{
+    let card = card_of(*numbers, *cid, *csd, *password);
+    let stepped = card::block_out(card, memory, map, out);
+    let next = stepped.card;
+    let reply = stepped.reply;
+    let outcome = reply.outcome;
+    *numbers = numbers_of(next);
+    *written = wrote(outcome);
+    outcome_number(outcome)
+}

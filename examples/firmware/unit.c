@@ -1,0 +1,140 @@
+/* One night of one unit, as its C firmware would have it: the unit makes its card over 32 MiB, the dock finds it, writes a block of a shift
+   log and reads it back. Each step is told in plain words and checked; the program ends with 1 if one is not as expected. */
+#include "mmc.h"
+
+/* The kit has no headers: what is taken from the C library is declared here. */
+int printf(const char *format, ...);
+int memcmp(const void *a, const void *b, unsigned long length);
+void *memcpy(void *to, const void *from, unsigned long length);
+void *memset(void *to, int byte, unsigned long length);
+
+enum { GROUP = 8192, GROUPS = 4096, SIZE = GROUPS * GROUP, SECTOR = 512, BLOCK = SECTOR + 2 };
+enum { OCR = 0x00FF8000, ADDRESS = 1, LOG_AT = 0x1000 };
+
+/* The unit owns all of it and lends it to each call. There is one group more than a card may have, for the make that is refused. */
+static unsigned char memory[SIZE + GROUP], map[GROUPS + 1];
+static struct mmc_card card;
+
+static int wrong;
+
+static void expect(int holds, const char *what)
+{
+    printf("    %s%s\n", holds ? "" : "NOT AS EXPECTED: ", what);
+    if (!holds)
+        wrong = 1;
+}
+
+/* A register of 16 bytes from its first 15: CID and CSD end in the CRC7 of these, then a 1. */
+static void close_register(unsigned char *bytes)
+{
+    bytes[15] = (unsigned char)(mmc_crc7(bytes, 15) << 1 | 1);
+}
+
+/* The dock sends a command. What the card sends back is to be `length` bytes, the same as `expected`. */
+static void ask(const char *says, unsigned char index, unsigned int argument, const unsigned char *expected, unsigned long length)
+{
+    unsigned char frame[6], answer[MMC_ANSWER];
+    unsigned long sent;
+    printf("%s: CMD%u\n", says, (unsigned)index);
+    expect(mmc_write_command(index, argument, frame, sizeof frame) == 0, "the frame is written");
+    expect(mmc_card_frame(&card, frame, sizeof frame, memory, SIZE, map, GROUPS, answer, &sent) == 0, "the card takes it");
+    printf("    on the line:");
+    for (unsigned long i = 0; i < sent; i++)
+        printf(" %02X", (unsigned)answer[i]);
+    printf("%s\n", sent == 0 ? " nothing" : "");
+    expect(sent == length && memcmp(answer, expected, length) == 0, length == 0 ? "which is silence" : "which is the answer that document 01 has");
+}
+
+/* The same where R1 with this status is expected. */
+static void ask_status(const char *says, unsigned char index, unsigned int argument, unsigned int status)
+{
+    unsigned char r1[6] = {index, (unsigned char)(status >> 24), (unsigned char)(status >> 16), (unsigned char)(status >> 8), (unsigned char)status, 0};
+    r1[5] = (unsigned char)(mmc_crc7(r1, 5) << 1 | 1);
+    ask(says, index, argument, r1, sizeof r1);
+}
+
+static void make_card(const unsigned char *cid, const unsigned char *csd)
+{
+    printf("The unit makes its card over %u bytes of memory, with no password\n", (unsigned)SIZE);
+    memset(memory, 0xFF, sizeof memory);
+    expect(mmc_card_make(&card, cid, csd, OCR, (const unsigned char *)"", 0, memory, SIZE, map, GROUPS) == 0, "the card is made");
+    expect(card.numbers.state == MMC_IDLE && card.numbers.groups == GROUPS && card.numbers.locked == 0, "it is in Idle, has 4,096 groups, and is not locked");
+}
+
+static void find_card(const unsigned char *cid)
+{
+    static const unsigned char R3[6] = {0x3F, 0x80, 0xFF, 0x80, 0x00, 0xFF};
+    unsigned char r2[17] = {0x3F};
+    memcpy(r2 + 1, cid, 16);
+    ask("The dock sends every card to Idle", 0, 0, r2, 0);
+    ask("It asks who works at its voltage", 1, OCR, R3, sizeof R3);
+    ask("It asks who is there", 2, 0, r2, sizeof r2);
+    ask_status("It gives the card address 1", 3, ADDRESS << 16, 0x00000500);
+    ask_status("It selects the card", 7, ADDRESS << 16, 0x00000700);
+}
+
+static void write_log(const unsigned char *log)
+{
+    unsigned char block[BLOCK];
+    ask_status("The dock is about to write a block", 24, LOG_AT, 0x00000900);
+    expect(card.numbers.state == MMC_RCV_ONE && card.numbers.at == LOG_AT, "the card awaits one block at that address");
+    printf("It sends 512 bytes of the shift log and their CRC16\n");
+    expect(mmc_write_block(log, SECTOR, block, sizeof block) == 0, "the block is written");
+    expect(mmc_card_block_in(&card, block, sizeof block, memory, SIZE, map, GROUPS) == 0, "the card stores it");
+    expect(memcmp(memory + LOG_AT, log, SECTOR) == 0, "the unit's memory holds it, byte for byte");
+    expect(card.numbers.state == MMC_PRG, "the card is busy");
+    printf("The unit says that the work is done\n");
+    mmc_card_work_done(&card);
+    expect(card.numbers.state == MMC_TRAN, "the card waits for the next command");
+}
+
+static void read_log(const unsigned char *log)
+{
+    unsigned char block[BLOCK];
+    unsigned long written;
+    ask_status("The dock reads the block back", 17, LOG_AT, 0x00000900);
+    expect(mmc_card_block_out(&card, memory, SIZE, map, GROUPS, block, sizeof block, &written) == 0, "the card sends it");
+    expect(written == BLOCK, "it has 514 bytes");
+    expect(mmc_check_block(block, written) == 0, "its CRC16 is right");
+    expect(memcmp(block, log, SECTOR) == 0, "it is the shift log, byte for byte");
+}
+
+static void damage_a_frame(void)
+{
+    unsigned char frame[6], answer[MMC_ANSWER];
+    unsigned long sent;
+    printf("A frame is damaged on the line: one bit of CMD13 is flipped\n");
+    expect(mmc_write_command(13, ADDRESS << 16, frame, sizeof frame) == 0, "the frame is written");
+    frame[3] ^= 0x10;
+    expect(mmc_card_frame(&card, frame, sizeof frame, memory, SIZE, map, GROUPS, answer, &sent) == 3 && sent == 0, "the card refuses it, 3, and is silent");
+    ask_status("The dock asks again, and is told of the damage by bit 23", 13, ADDRESS << 16, 0x00800900);
+    ask_status("And once more: it was told", 13, ADDRESS << 16, 0x00000900);
+}
+
+static void make_too_large(const unsigned char *cid, const unsigned char *csd)
+{
+    static const struct mmc_card REFUSED = {.numbers = {.state = MMC_INA}};
+    struct mmc_card other = card;
+    printf("The unit makes a card over %u bytes, a group too many\n", (unsigned)(SIZE + GROUP));
+    expect(mmc_card_make(&other, cid, csd, OCR, (const unsigned char *)"", 0, memory, SIZE + GROUP, map, GROUPS + 1) == 7, "the make is refused, 7");
+    expect(memcmp(&other, &REFUSED, sizeof other) == 0, "the record is Inactive and all zeros");
+}
+
+int main(void)
+{
+    unsigned char cid[16] = {0x0C, 'P', 'O', 'U', 'N', 'I', 'T', '0', '7', 0x10, 0x00, 0x00, 0x12, 0x34, 0xB1}, csd[16] = {0};
+    unsigned char log[SECTOR];
+    static const char NIGHT[] = "unit 07, night shift\n21:14 truck 31 at 38 m\n02:50 truck 12 at 44 m\n04:03 truck 31 at 29 m\n";
+    close_register(cid);
+    close_register(csd);
+    memset(log, 0xFF, sizeof log);
+    memcpy(log, NIGHT, sizeof NIGHT - 1);
+    make_card(cid, csd);
+    find_card(cid);
+    write_log(log);
+    read_log(log);
+    damage_a_frame();
+    make_too_large(cid, csd);
+    printf("%s\n", wrong ? "Something was NOT as expected" : "Everything was as expected");
+    return wrong;
+}
