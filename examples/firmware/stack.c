@@ -1,27 +1,17 @@
-/* The stack that a card's calls take. Each call is made on a stack of its own, which was filled with one byte before: from the place where the
-   call is made down to the lowest byte that changed is what it took, the 128 bytes under the stack pointer among them where they are used. */
+/* The stack that a card's calls take. The stack below the caller is filled with one byte before a call: from the caller's stack pointer down to
+   the lowest byte that changed is what the call took, its arguments and its return address among them, and those of the 128 bytes under the
+   last stack pointer that were used. */
 #include "mmc.h"
 
 int printf(const char *format, ...);
-void *memset(void *to, int byte, unsigned long length);
 
-/* As the C library of x86-64 Linux declares them. */
-union thread_attributes {
-    unsigned char bytes[56];
-    long align;
-};
-int pthread_attr_init(union thread_attributes *attributes);
-int pthread_attr_setstack(union thread_attributes *attributes, void *stack, unsigned long size);
-int pthread_create(unsigned long *thread, const union thread_attributes *attributes, void *(*start)(void *), void *argument);
-int pthread_join(unsigned long thread, void **result);
-
-enum { GROUP = 8192, GROUPS = 4096, SIZE = GROUPS * GROUP, STACK = 1 << 18, PAINT = 0xA5 };
+enum { GROUP = 8192, GROUPS = 4096, SIZE = GROUPS * GROUP, STACK = 32768, PAINT = 0xA5 };
 enum { OCR = 0x00FF8000, ADDRESS = 0x00010000 };
 
-static unsigned char memory[SIZE], map[GROUPS], stack[STACK] __attribute__((aligned(4096)));
+static unsigned char memory[SIZE], map[GROUPS];
 static struct mmc_card card;
 static unsigned char frame[6], block[2050], answer[MMC_ANSWER], cid[16], csd[16];
-static unsigned long length, sent, refusal, made_at;
+static unsigned long length, sent, refusal;
 
 enum call { MAKE, POWER_ON, WORK_DONE, FRAME, BLOCK_IN, BLOCK_OUT };
 
@@ -51,10 +41,12 @@ static const struct situation SITUATIONS[] = {
     {"block out, CMD30", BLOCK_OUT, MMC_DATA_PROTECTION, 0, 0, 0, {0}, 0},
 };
 
-static void *perform(void *argument)
+static unsigned long perform(const struct situation *s)
 {
-    const struct situation *s = argument;
-    made_at = (unsigned long)__builtin_frame_address(0);
+    volatile unsigned char *here;
+    __asm__ volatile("movq %%rsp, %0" : "=r"(here));
+    for (long i = 1; i <= STACK; i++)
+        here[-i] = PAINT;
     switch (s->call) {
     case MAKE:
         refusal = mmc_card_make(&card, cid, csd, OCR, (const unsigned char *)"password", 8, memory, SIZE, map, GROUPS);
@@ -75,7 +67,10 @@ static void *perform(void *argument)
         refusal = mmc_card_block_out(&card, memory, SIZE, map, GROUPS, block, sizeof block, &sent);
         break;
     }
-    return argument;
+    long lowest = STACK;
+    while (lowest > 0 && here[-lowest] == PAINT)
+        lowest--;
+    return (unsigned long)lowest;
 }
 
 static int prepare(const struct situation *s)
@@ -99,25 +94,17 @@ static int prepare(const struct situation *s)
 /* The bytes of stack that a situation takes, or 0 where it did not do what its name says. */
 static unsigned long taken(const struct situation *s)
 {
-    union thread_attributes attributes;
-    unsigned long thread, lowest = 0;
     if (!prepare(s))
         return 0;
-    memset(stack, PAINT, sizeof stack);
-    if (pthread_attr_init(&attributes) != 0 || pthread_attr_setstack(&attributes, stack, sizeof stack) != 0)
-        return 0;
-    if (pthread_create(&thread, &attributes, perform, (void *)s) != 0 || pthread_join(thread, 0) != 0)
-        return 0;
-    while (lowest < STACK && stack[lowest] == PAINT)
-        lowest++;
-    return refusal == s->refusal && lowest > 0 ? made_at - (unsigned long)(stack + lowest) : 0;
+    unsigned long n = perform(s);
+    return refusal == s->refusal && n < STACK ? n : 0;
 }
 
 int main(void)
 {
     unsigned long most = 0;
     cid[15] = csd[15] = 1;
-    printf("Bytes of stack, a call each, below the frame of the function that makes the call\n");
+    printf("Bytes of stack, a call each, below the stack pointer of the function that makes the call\n");
     for (unsigned i = 0; i < sizeof SITUATIONS / sizeof SITUATIONS[0]; i++) {
         unsigned long n = taken(&SITUATIONS[i]);
         if (n == 0) {

@@ -1,9 +1,11 @@
-// What a unit's C firmware links: the check sums, command frames and data blocks, each call with
-// the C interface (a slice is a pointer and a length). A call answers 0, or the number that
-// document 01 gives its refusal; no call asks anything of its caller but lent memory that is there.
+// What a unit's C firmware links: the check sums, command frames and data blocks, and one card with
+// its calls, each with the C interface (a slice is a pointer and a length). A call answers 0, or the
+// number that document 01 gives its refusal; no call asks anything of its caller but lent memory
+// that is there. mmc.h has the declarations, and the card's record as one struct.
 //
 // Offers: `mmc_crc7`, `mmc_crc16`, `mmc_read_frame`, `mmc_write_command`, `mmc_write_block`,
-// `mmc_check_block`.
+// `mmc_check_block`; `mmc_parts_make`, `mmc_parts_power_on`, `mmc_parts_work_done`,
+// `mmc_parts_frame`, `mmc_parts_block_in`, `mmc_parts_block_out`.
 mod calls;
 mod taken;
 mod told;
