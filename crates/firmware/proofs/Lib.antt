@@ -1,2 +1,3 @@
 pub mod Crossing
 pub mod Kept
+pub mod Sends

@@ -1,6 +1,8 @@
 -- What a call at a card tells C beside the record.
 -- Assumes nothing.
+use mathlib.Core.List.{List, _++_}
 use Prim.Native.Nat.{ℕ}
+use lib.ListN.{length, drop}
 use Rattle.base.specs.Refusals.{numberOf}
 use Rattle.card.specs.declared.Outcome.{Outcome}
 use Rattle.card.specs.declared.Outcome.the-variants.{Done, Wrote, Refused}
@@ -22,3 +24,7 @@ abbrev pub wroteOf : Outcome → ℕ
 wroteOf Done = 0
 wroteOf (Wrote n) = n
 wroteOf (Refused refusal) = 0
+
+-- bytes at the front of an output, and the rest of it as it was: "Output past the answer's end is never written"
+abbrev pub fronted : List ℕ → List ℕ → List ℕ
+fronted bytes out = bytes ++ drop (length bytes) out

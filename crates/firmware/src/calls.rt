@@ -9,16 +9,18 @@ use crate::told::numbers_of;
 use crate::told::outcome_number;
 use crate::told::wrote;
 use base::Written;
+use command::Sent;
+use record::Registers;
 ghost use mathlib.Core.Path.{_≡_};
 ghost use lib.ListN.{length};
-ghost use Rattle.base.specs.Output.{laid, bytesOf};
+ghost use Rattle.bus.specs.Hearing.{Sendable};
 ghost use Rattle.card.specs.BlockIn.{blockJudged, keptOf, storedBy, clearedBy};
 ghost use Rattle.card.specs.BlockOut.{outJudged, sentOut};
 ghost use Rattle.card.specs.Frame.{frameOf, frameJudged, erasedBy, protectedBy};
-ghost use Rattle.card.specs.Sent.{sentBytes, sentWritten};
+ghost use Rattle.card.specs.Sent.{sentBytes};
 ghost use Rattle.record.specs.Making.{madeOf};
 ghost use Rattle.record.specs.Power.{poweredOn, worked};
-ghost use Rattle.firmware.specs.Answers.{outcomeNumber, makingNumber, wroteOf};
+ghost use Rattle.firmware.specs.Answers.{outcomeNumber, makingNumber, wroteOf, fronted};
 ghost use Rattle.firmware.specs.Record.{cardOf, numbersOf};
 
 // A card made: 7, 8, 9, 10, 11. A refused make leaves the one record that document 01 lets it
@@ -90,10 +92,14 @@ pub extern "C" fn mmc_parts_work_done(
     *numbers = numbers_of(next);
 }
 
-// How many bytes at the front of an answer are the card's.
-fn bytes_of(written: Written) -> usize
-    ensures { λ r. ⌜ r ≡ bytesOf written ⌝ }
+// What a card sends, written to the front of an answer: the longest fits. The answer is how many
+// bytes it is.
+fn send(registers: Registers, sent: Sent, out: &mut [u8; 17]) -> usize
+    requires { ⌜ Sendable sent ⌝ }
+    ensures answer { λ r. ⌜ r ≡ length (sentBytes registers sent) ⌝ }
+    ensures output { λ _. ⌜ now (out .exit) ≡ fronted (sentBytes registers sent) (now (out .entry)) ⌝ }
 {
+    let written = card::write_sent(registers, sent, out);
     match written {
         Written::Bytes(n) => n,
         Written::Refused(_) => 0,
@@ -119,8 +125,8 @@ pub extern "C" fn mmc_parts_frame(
     ensures stands { λ _. ⌜ cardOf (now (numbers .exit)) (now (cid .entry)) (now (csd .entry)) (now (password .entry)) ≡ frameOf (cardOf (now (numbers .entry)) (now (cid .entry)) (now (csd .entry)) (now (password .entry))) (now (frame .entry)) (length (now (memory .entry))) (now (map .entry)) .card ⌝ }
     ensures memory { λ _. ⌜ now (memory .exit) ≡ erasedBy (cardOf (now (numbers .entry)) (now (cid .entry)) (now (csd .entry)) (now (password .entry))) (now (memory .entry)) (now (map .entry)) (frameJudged (cardOf (now (numbers .entry)) (now (cid .entry)) (now (csd .entry)) (now (password .entry))) (now (frame .entry)) (length (now (memory .entry))) (now (map .entry)) .change) ⌝ }
     ensures map { λ _. ⌜ now (map .exit) ≡ protectedBy (now (map .entry)) (frameJudged (cardOf (now (numbers .entry)) (now (cid .entry)) (now (csd .entry)) (now (password .entry))) (now (frame .entry)) (length (now (memory .entry))) (now (map .entry)) .change) ⌝ }
-    ensures bytes { λ _. ⌜ now (answer .exit) ≡ laid (sentWritten ((cardOf (now (numbers .entry)) (now (cid .entry)) (now (csd .entry)) (now (password .entry))) .registers) (frameOf (cardOf (now (numbers .entry)) (now (cid .entry)) (now (csd .entry)) (now (password .entry))) (now (frame .entry)) (length (now (memory .entry))) (now (map .entry)) .reply .sent) (now (answer .entry))) (sentBytes ((cardOf (now (numbers .entry)) (now (cid .entry)) (now (csd .entry)) (now (password .entry))) .registers) (frameOf (cardOf (now (numbers .entry)) (now (cid .entry)) (now (csd .entry)) (now (password .entry))) (now (frame .entry)) (length (now (memory .entry))) (now (map .entry)) .reply .sent)) (now (answer .entry)) ⌝ }
-    ensures sent { λ _. ⌜ now (sent .exit) ≡ bytesOf (sentWritten ((cardOf (now (numbers .entry)) (now (cid .entry)) (now (csd .entry)) (now (password .entry))) .registers) (frameOf (cardOf (now (numbers .entry)) (now (cid .entry)) (now (csd .entry)) (now (password .entry))) (now (frame .entry)) (length (now (memory .entry))) (now (map .entry)) .reply .sent) (now (answer .entry))) ⌝ }
+    ensures bytes { λ _. ⌜ now (answer .exit) ≡ fronted (sentBytes ((cardOf (now (numbers .entry)) (now (cid .entry)) (now (csd .entry)) (now (password .entry))) .registers) (frameOf (cardOf (now (numbers .entry)) (now (cid .entry)) (now (csd .entry)) (now (password .entry))) (now (frame .entry)) (length (now (memory .entry))) (now (map .entry)) .reply .sent)) (now (answer .entry)) ⌝ }
+    ensures sent { λ _. ⌜ now (sent .exit) ≡ length (sentBytes ((cardOf (now (numbers .entry)) (now (cid .entry)) (now (csd .entry)) (now (password .entry))) .registers) (frameOf (cardOf (now (numbers .entry)) (now (cid .entry)) (now (csd .entry)) (now (password .entry))) (now (frame .entry)) (length (now (memory .entry))) (now (map .entry)) .reply .sent)) ⌝ }
 {
     let card = card_of(*numbers, *cid, *csd, *password);
     let registers = card.registers;
@@ -130,8 +136,7 @@ pub extern "C" fn mmc_parts_frame(
     let outcome = reply.outcome;
     let sends = reply.sent;
     *numbers = numbers_of(next);
-    let written = card::write_sent(registers, sends, answer);
-    *sent = bytes_of(written);
+    *sent = send(registers, sends, answer);
     outcome_number(outcome)
 }
 

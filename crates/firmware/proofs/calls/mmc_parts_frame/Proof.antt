@@ -1,14 +1,28 @@
 -- `firmware::calls::mmc_parts_frame` meets its contract: the card's call, between a record taken in and told, and its answer written.
 -- Assumes nothing.
+use mathlib.Core.Path.{sym, subst}
 use borrow.Author.Needs.{needs}
+use denote.Ref.{now}
+use Rattle.bus.proofs.Lists.{below-all}
+use Rattle.bus.specs.Hearing.{Sendable}
+use Rattle.card.specs.declared.Stepped.{Stepped}
+use Rattle.crc.specs.Bits.{Below}
 use Rattle.firmware.proofs.Kept.{own-cid, own-csd, own-password, frame-registers, frame-lock}
+use Rattle.firmware.proofs.Sends.{frame-sendable}
 use Rattle.firmware.proofs.calls.mmc_parts_frame.Statement.{statement}
 use Rattle.firmware.proofs.calls.mmc_parts_frame.Tie as tie
 
+send-requires : tie.Need-send-requires
+send-requires c κs =
+    let f = c .before .before .before .before .before .before .before .before in
+    let s = f .before .before .before .before .before .before .before .before .before .before .before in
+    let bytes : Below 256 (now (s .before .args .frame)) = below-all 256 (now (s .before .args .frame)) (λ i. s .shared-slice-known .given i .fits) in
+    subst (λ (stepped : Stepped). Sendable (stepped .reply .sent)) (sym (f .frame .ensures .0))
+    (frame-sendable _ (now (s .before .args .frame)) _ _ bytes)
+
 returns : tie.Need-returns
 returns c =
-    let w = c .before .before in
-    let t = w .before .before in
+    let t = c .before .before .before in
     let f = t .before .before .before .before .before .before .before in
     let taken = f .before .before .before .before .card-of .ensures in
     let stepped = f .frame .ensures .0 in (
@@ -21,10 +35,7 @@ returns c =
             simp (f .frame .ensures .1 .0, taken),
             (
               simp (f .frame .ensures .1 .1, taken),
-              (
-                simp (w .write-sent .ensures .1, w .write-sent .ensures .0, stepped, taken),
-                simp (c .before .bytes-of .ensures, w .write-sent .ensures .0, stepped, taken),
-              ),
+              (simp (c .before .send .ensures .1, stepped, taken), simp (c .before .send .ensures .0, stepped, taken)),
             ),
           ),
         ),
@@ -38,8 +49,7 @@ mmc-parts-frame-spec =
     (λ c κs. search needs)
     (λ c κs. search needs)
     (λ c κs. search needs)
-    (λ c κs. search needs)
-    (λ c κs. search needs)
+    send-requires
     (λ c κs. search needs)
     (λ c. search needs)
     (λ c. search needs)
