@@ -17,11 +17,20 @@ static struct mmc_card card;
 
 static int wrong;
 
+/* A check that is told only where it fails, and one that is told either way. */
+static void check(int holds, const char *what)
+{
+    if (!holds) {
+        printf("    NOT AS EXPECTED: %s\n", what);
+        wrong = 1;
+    }
+}
+
 static void expect(int holds, const char *what)
 {
-    printf("    %s%s\n", holds ? "" : "NOT AS EXPECTED: ", what);
-    if (!holds)
-        wrong = 1;
+    if (holds)
+        printf("    %s\n", what);
+    check(holds, what);
 }
 
 /* A register of 16 bytes from its first 15: CID and CSD end in the CRC7 of these, then a 1. */
@@ -33,16 +42,18 @@ static void close_register(unsigned char *bytes)
 /* The dock sends a command. What the card sends back is to be `length` bytes, the same as `expected`. */
 static void ask(const char *says, unsigned char index, unsigned int argument, const unsigned char *expected, unsigned long length)
 {
-    unsigned char frame[6], answer[MMC_ANSWER];
+    unsigned char frame[6], answer[MMC_ANSWER], heard;
+    unsigned int of;
     unsigned long sent;
     printf("%s: CMD%u\n", says, (unsigned)index);
-    expect(mmc_write_command(index, argument, frame, sizeof frame) == 0, "the frame is written");
-    expect(mmc_card_frame(&card, frame, sizeof frame, memory, SIZE, map, GROUPS, answer, &sent) == 0, "the card takes it");
+    check(mmc_write_command(index, argument, frame, sizeof frame) == 0, "the dock's frame is written");
+    check(mmc_read_frame(frame, sizeof frame, &heard, &of) == 0 && heard == index && of == argument, "the unit reads the same command");
+    check(mmc_card_frame(&card, frame, sizeof frame, memory, SIZE, map, GROUPS, answer, &sent) == 0, "the card takes the frame");
     printf("    on the line:");
     for (unsigned long i = 0; i < sent; i++)
         printf(" %02X", (unsigned)answer[i]);
     printf("%s\n", sent == 0 ? " nothing" : "");
-    expect(sent == length && memcmp(answer, expected, length) == 0, length == 0 ? "which is silence" : "which is the answer that document 01 has");
+    check(sent == length && memcmp(answer, expected, length) == 0, "that is the answer of document 01");
 }
 
 /* The same where R1 with this status is expected. */
@@ -79,7 +90,7 @@ static void write_log(const unsigned char *log)
     ask_status("The dock is about to write a block", 24, LOG_AT, 0x00000900);
     expect(card.numbers.state == MMC_RCV_ONE && card.numbers.at == LOG_AT, "the card awaits one block at that address");
     printf("It sends 512 bytes of the shift log and their CRC16\n");
-    expect(mmc_write_block(log, SECTOR, block, sizeof block) == 0, "the block is written");
+    check(mmc_write_block(log, SECTOR, block, sizeof block) == 0, "the dock's block is written");
     expect(mmc_card_block_in(&card, block, sizeof block, memory, SIZE, map, GROUPS) == 0, "the card stores it");
     expect(memcmp(memory + LOG_AT, log, SECTOR) == 0, "the unit's memory holds it, byte for byte");
     expect(card.numbers.state == MMC_PRG, "the card is busy");
@@ -96,6 +107,7 @@ static void read_log(const unsigned char *log)
     expect(mmc_card_block_out(&card, memory, SIZE, map, GROUPS, block, sizeof block, &written) == 0, "the card sends it");
     expect(written == BLOCK, "it has 514 bytes");
     expect(mmc_check_block(block, written) == 0, "its CRC16 is right");
+    expect(mmc_crc16(log, SECTOR) == (block[SECTOR] << 8 | block[SECTOR + 1]), "and that of the log, high byte first");
     expect(memcmp(block, log, SECTOR) == 0, "it is the shift log, byte for byte");
 }
 
@@ -104,11 +116,18 @@ static void damage_a_frame(void)
     unsigned char frame[6], answer[MMC_ANSWER];
     unsigned long sent;
     printf("A frame is damaged on the line: one bit of CMD13 is flipped\n");
-    expect(mmc_write_command(13, ADDRESS << 16, frame, sizeof frame) == 0, "the frame is written");
+    check(mmc_write_command(13, ADDRESS << 16, frame, sizeof frame) == 0, "the dock's frame is written");
     frame[3] ^= 0x10;
     expect(mmc_card_frame(&card, frame, sizeof frame, memory, SIZE, map, GROUPS, answer, &sent) == 3 && sent == 0, "the card refuses it, 3, and is silent");
     ask_status("The dock asks again, and is told of the damage by bit 23", 13, ADDRESS << 16, 0x00800900);
     ask_status("And once more: it was told", 13, ADDRESS << 16, 0x00000900);
+}
+
+static void lose_power(const unsigned char *log)
+{
+    printf("The unit loses its power and has it again\n");
+    mmc_card_power_on(&card);
+    expect(card.numbers.state == MMC_IDLE && memcmp(memory + LOG_AT, log, SECTOR) == 0, "the card is in Idle, and the log is still in its memory");
 }
 
 static void make_too_large(const unsigned char *cid, const unsigned char *csd)
@@ -134,6 +153,7 @@ int main(void)
     write_log(log);
     read_log(log);
     damage_a_frame();
+    lose_power(log);
     make_too_large(cid, csd);
     printf("%s\n", wrong ? "Something was NOT as expected" : "Everything was as expected");
     return wrong;

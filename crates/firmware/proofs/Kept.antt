@@ -1,6 +1,5 @@
 -- What a call at a card keeps of its record, so that C need not be told it again: no call changes the CID and the CSD, and only a block in
 -- changes the password.
---   own-cid, own-csd, own-password       the bytes of the record that numbers and bytes stand for are those bytes
 --   frame-registers, frame-lock          a frame
 --   in-registers                         a block in
 --   out-registers, out-lock              a block out
@@ -22,19 +21,6 @@ use Rattle.lock.specs.Passwords.{poweredOf}
 use Rattle.made.proofs.Registers.{registers-kept}
 use Rattle.record.specs.Power.{poweredOn, worked}
 use Rattle.record.specs.declared.Card.{Card}
-use Rattle.firmware.specs.Record.{cardOf}
-
-pub own-cid : (numbers cid csd password : List ℕ) → cardOf numbers cid csd password .registers .cid ≡ cid
-unfolding cardOf
-own-cid numbers cid csd password = refl
-
-pub own-csd : (numbers cid csd password : List ℕ) → cardOf numbers cid csd password .registers .csd ≡ csd
-unfolding cardOf
-own-csd numbers cid csd password = refl
-
-pub own-password : (numbers cid csd password : List ℕ) → cardOf numbers cid csd password .lock .password ≡ password
-unfolding cardOf
-own-password numbers cid csd password = refl
 
 module _ (card : Card) where
   pub frame-registers : (frame : List ℕ) (memory : ℕ) (map : List ℕ) → frameOf card frame memory map .card .registers ≡ card .registers

@@ -1,3 +1,2 @@
-pub mod Crossing
 pub mod Kept
 pub mod Sends

@@ -1,15 +1,15 @@
 // The calls of one card for C. A record crosses in four parts, which mmc.h puts together as one:
 // twelve numbers, and the bytes of the CID, the CSD and the password. Each call takes the record
-// that they stand for (taken.rt), calls the card, and tells the next one (told.rt); its promise is
-// that of the card's call, of every lent number and byte. `stands` says that the parts afterwards
-// stand for the card's next record, so that a row of calls from C is the same row at the card.
-use crate::taken::card_of;
-use crate::told::making_number;
-use crate::told::numbers_of;
-use crate::told::outcome_number;
-use crate::told::wrote;
+// that they stand for (crates/crossing), calls the card, and tells the next one; its promise is that
+// of the card's call, of every lent number and byte. `stands` says that the parts afterwards stand
+// for the card's next record, so that a row of calls from C is the same row at the card.
+use crate::answers::making_number;
+use crate::answers::outcome_number;
+use crate::answers::wrote;
 use base::Written;
 use command::Sent;
+use crossing::card_of;
+use crossing::numbers_of;
 use record::Registers;
 ghost use mathlib.Core.Path.{_≡_};
 ghost use lib.ListN.{length};
@@ -18,10 +18,10 @@ ghost use Rattle.card.specs.BlockIn.{blockJudged, keptOf, storedBy, clearedBy};
 ghost use Rattle.card.specs.BlockOut.{outJudged, sentOut};
 ghost use Rattle.card.specs.Frame.{frameOf, frameJudged, erasedBy, protectedBy};
 ghost use Rattle.card.specs.Sent.{sentBytes};
+ghost use Rattle.crossing.specs.Record.{cardOf, numbersOf};
 ghost use Rattle.record.specs.Making.{madeOf};
 ghost use Rattle.record.specs.Power.{poweredOn, worked};
 ghost use Rattle.firmware.specs.Answers.{outcomeNumber, makingNumber, wroteOf, fronted};
-ghost use Rattle.firmware.specs.Record.{cardOf, numbersOf};
 
 // A card made: 7, 8, 9, 10, 11. A refused make leaves the one record that document 01 lets it
 // leave, Inactive and all zeros.

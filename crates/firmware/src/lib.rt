@@ -6,9 +6,8 @@
 // Offers: `mmc_crc7`, `mmc_crc16`, `mmc_read_frame`, `mmc_write_command`, `mmc_write_block`,
 // `mmc_check_block`; `mmc_parts_make`, `mmc_parts_power_on`, `mmc_parts_work_done`,
 // `mmc_parts_frame`, `mmc_parts_block_in`, `mmc_parts_block_out`.
+mod answers;
 mod calls;
-mod taken;
-mod told;
 
 use base::Written;
 pub use calls::mmc_parts_block_in;

@@ -1,7 +1,8 @@
 -- `firmware::calls::mmc_parts_block_in` meets its contract: the card's call, between a record taken in and told.
 -- Assumes nothing.
 use borrow.Author.Needs.{needs}
-use Rattle.firmware.proofs.Kept.{own-cid, own-csd, in-registers}
+use Rattle.crossing.proofs.Crossing.{own-cid, own-csd}
+use Rattle.firmware.proofs.Kept.{in-registers}
 use Rattle.firmware.proofs.calls.mmc_parts_block_in.Statement.{statement}
 use Rattle.firmware.proofs.calls.mmc_parts_block_in.Tie as tie
 

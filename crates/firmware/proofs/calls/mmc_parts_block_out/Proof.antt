@@ -1,7 +1,8 @@
 -- `firmware::calls::mmc_parts_block_out` meets its contract: the card's call, between a record taken in and told.
 -- Assumes nothing.
 use borrow.Author.Needs.{needs}
-use Rattle.firmware.proofs.Kept.{own-cid, own-csd, own-password, out-registers, out-lock}
+use Rattle.crossing.proofs.Crossing.{own-cid, own-csd, own-password}
+use Rattle.firmware.proofs.Kept.{out-registers, out-lock}
 use Rattle.firmware.proofs.calls.mmc_parts_block_out.Statement.{statement}
 use Rattle.firmware.proofs.calls.mmc_parts_block_out.Tie as tie
 

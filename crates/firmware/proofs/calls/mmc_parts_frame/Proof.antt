@@ -1,13 +1,11 @@
 -- `firmware::calls::mmc_parts_frame` meets its contract: the card's call, between a record taken in and told, and its answer written.
 -- Assumes nothing.
-use mathlib.Core.Path.{sym, subst}
 use borrow.Author.Needs.{needs}
 use denote.Ref.{now}
 use Rattle.bus.proofs.Lists.{below-all}
-use Rattle.bus.specs.Hearing.{Sendable}
-use Rattle.card.specs.declared.Stepped.{Stepped}
 use Rattle.crc.specs.Bits.{Below}
-use Rattle.firmware.proofs.Kept.{own-cid, own-csd, own-password, frame-registers, frame-lock}
+use Rattle.crossing.proofs.Crossing.{own-cid, own-csd, own-password}
+use Rattle.firmware.proofs.Kept.{frame-registers, frame-lock}
 use Rattle.firmware.proofs.Sends.{frame-sendable}
 use Rattle.firmware.proofs.calls.mmc_parts_frame.Statement.{statement}
 use Rattle.firmware.proofs.calls.mmc_parts_frame.Tie as tie
@@ -17,8 +15,7 @@ send-requires c κs =
     let f = c .before .before .before .before .before .before .before .before in
     let s = f .before .before .before .before .before .before .before .before .before .before .before in
     let bytes : Below 256 (now (s .before .args .frame)) = below-all 256 (now (s .before .args .frame)) (λ i. s .shared-slice-known .given i .fits) in
-    subst (λ (stepped : Stepped). Sendable (stepped .reply .sent)) (sym (f .frame .ensures .0))
-    (frame-sendable _ (now (s .before .args .frame)) _ _ bytes)
+    rw (f .frame .ensures .0) (frame-sendable _ (now (s .before .args .frame)) _ _ bytes)
 
 returns : tie.Need-returns
 returns c =

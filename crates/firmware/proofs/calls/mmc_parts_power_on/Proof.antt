@@ -1,7 +1,8 @@
 -- `firmware::calls::mmc_parts_power_on` meets its contract: power-on, between a record taken in and told.
 -- Assumes nothing.
 use borrow.Author.Needs.{needs}
-use Rattle.firmware.proofs.Kept.{own-cid, own-csd, own-password, powered-registers, powered-password}
+use Rattle.crossing.proofs.Crossing.{own-cid, own-csd, own-password}
+use Rattle.firmware.proofs.Kept.{powered-registers, powered-password}
 use Rattle.firmware.proofs.calls.mmc_parts_power_on.Statement.{statement}
 use Rattle.firmware.proofs.calls.mmc_parts_power_on.Tie as tie
 

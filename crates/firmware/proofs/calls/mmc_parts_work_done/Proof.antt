@@ -1,7 +1,8 @@
 -- `firmware::calls::mmc_parts_work_done` meets its contract: the move, between a record taken in and told.
 -- Assumes nothing.
 use borrow.Author.Needs.{needs}
-use Rattle.firmware.proofs.Kept.{own-cid, own-csd, own-password, worked-registers, worked-lock}
+use Rattle.crossing.proofs.Crossing.{own-cid, own-csd, own-password}
+use Rattle.firmware.proofs.Kept.{worked-registers, worked-lock}
 use Rattle.firmware.proofs.calls.mmc_parts_work_done.Statement.{statement}
 use Rattle.firmware.proofs.calls.mmc_parts_work_done.Tie as tie
 

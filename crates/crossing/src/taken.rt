@@ -1,6 +1,6 @@
-// The record that a C caller's numbers and bytes stand for. Any numbers stand for one, so that no
-// call asks anything of them: a number that is wider than its field counts by its low bits, and a
-// state or tags of no name read as Inactive and as none.
+// The record that numbers and bytes stand for. Any numbers stand for one, so that no call asks
+// anything of them: a number that is wider than its field counts by its low bits, and a state or
+// tags of no name read as Inactive and as none.
 use lock::Lock;
 use record::Card;
 use record::Link;
@@ -13,7 +13,7 @@ use tags::Kind;
 use tags::Range;
 use tags::Tags;
 ghost use mathlib.Core.Path.{_≡_};
-ghost use Rattle.firmware.specs.Record.{stateOf, tagsBy, cardOf};
+ghost use Rattle.crossing.specs.Record.{stateOf, tagsBy, cardOf};
 
 fn state_of(number: u32, at: u32) -> State
     ensures { λ r. ⌜ r ≡ stateOf number at ⌝ }

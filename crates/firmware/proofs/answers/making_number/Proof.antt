@@ -1,8 +1,8 @@
--- `firmware::told::making_number` meets its contract: the arm's constructor says which case of `makingNumber` holds.
+-- `firmware::answers::making_number` meets its contract: the arm's constructor says which case of `makingNumber` holds.
 -- Assumes nothing.
 use borrow.Author.Needs.{needs}
-use Rattle.firmware.proofs.told.making_number.Statement.{statement}
-use Rattle.firmware.proofs.told.making_number.Tie as tie
+use Rattle.firmware.proofs.answers.making_number.Statement.{statement}
+use Rattle.firmware.proofs.answers.making_number.Tie as tie
 
 returns-2 : tie.Need-returns-2
 returns-2 c = simp (c .number .ensures, c .before .before .making .given .1)

@@ -1,8 +1,8 @@
--- `firmware::told::outcome_number` meets its contract: the arm's constructor says which case of `outcomeNumber` holds.
+-- `firmware::answers::outcome_number` meets its contract: the arm's constructor says which case of `outcomeNumber` holds.
 -- Assumes nothing.
 use borrow.Author.Needs.{needs}
-use Rattle.firmware.proofs.told.outcome_number.Statement.{statement}
-use Rattle.firmware.proofs.told.outcome_number.Tie as tie
+use Rattle.firmware.proofs.answers.outcome_number.Statement.{statement}
+use Rattle.firmware.proofs.answers.outcome_number.Tie as tie
 
 returns-3 : tie.Need-returns-3
 returns-3 c = simp (c .number .ensures, c .before .before .outcome .given .1)

@@ -1,8 +1,10 @@
 -- Nothing is lost where a record crosses to C and comes back.
---   crossing      a record told in numbers and bytes, and taken in again, is that record, in every field
+--   crossing                         a record told in numbers and bytes, and taken in again, is that record, in every field
+--   own-cid, own-csd, own-password   the bytes of the record that numbers and bytes stand for are those bytes
 -- Assumes nothing.
 use mathlib.Core.Path.{_≡_, refl}
 use mathlib.Core.Bool.{Bool, true, false}
+use mathlib.Core.List.{List}
 use Prim.Native.Nat.{ℕ}
 use native.Mathlib.Nat.{mod-eq-of-lt}
 use lib.Dec.{eqb}
@@ -15,7 +17,7 @@ use Rattle.tags.specs.Tagging.{tagsOf}
 use Rattle.tags.specs.declared.Kind.the-variants.{Sectors, Groups}
 use Rattle.tags.specs.declared.Range.{Range}
 use Rattle.tags.specs.declared.Range.the-variants.{Nothing, Start, Full}
-use Rattle.firmware.specs.Record.{stateOf, tagsBy, cardOf, stateNumber, stateAt, tagsNumber, firstOf, lastOf, flag, numbersOf, Within}
+use Rattle.crossing.specs.Record.{stateOf, tagsBy, cardOf, stateNumber, stateAt, tagsNumber, firstOf, lastOf, flag, numbersOf, Within}
 
 state-crosses : (state : State) → stateOf (stateNumber state) (stateAt state) ≡ state
 unfolding stateOf
@@ -59,3 +61,15 @@ crossing card within =
       mod-eq-of-lt (within .password-length),
       mod-eq-of-lt (within .groups),
     )
+
+pub own-cid : (numbers cid csd password : List ℕ) → cardOf numbers cid csd password .registers .cid ≡ cid
+unfolding cardOf
+own-cid numbers cid csd password = refl
+
+pub own-csd : (numbers cid csd password : List ℕ) → cardOf numbers cid csd password .registers .csd ≡ csd
+unfolding cardOf
+own-csd numbers cid csd password = refl
+
+pub own-password : (numbers cid csd password : List ℕ) → cardOf numbers cid csd password .lock .password ≡ password
+unfolding cardOf
+own-password numbers cid csd password = refl

@@ -1,15 +1,12 @@
-// A record told to C as numbers, and what a call at a card answers.
-use card::Outcome;
+// A record told in numbers.
 use record::Card;
-use record::Making;
 use states::Incoming;
 use states::Outgoing;
 use states::State;
 use tags::Kind;
 use tags::Range;
 ghost use mathlib.Core.Path.{_≡_};
-ghost use Rattle.firmware.specs.Answers.{outcomeNumber, makingNumber, wroteOf};
-ghost use Rattle.firmware.specs.Record.{outgoingNumber, incomingNumber, stateNumber, outgoingAt, incomingAt, stateAt, startNumber, fullNumber, tagsNumber, firstOf, lastOf, flag, cardOf, numbersOf};
+ghost use Rattle.crossing.specs.Record.{outgoingNumber, incomingNumber, stateNumber, outgoingAt, incomingAt, stateAt, startNumber, fullNumber, tagsNumber, firstOf, lastOf, flag, cardOf, numbersOf};
 
 fn outgoing_number(outgoing: Outgoing) -> u32
     ensures { λ r. ⌜ r ≡ outgoingNumber outgoing ⌝ }
@@ -167,36 +164,4 @@ pub fn numbers_of(card: Card) -> [u32; 12]
         registers.groups as u32,
         registers.ocr,
     ]
-}
-
-// The number of what became of a call.
-pub fn outcome_number(outcome: Outcome) -> u8
-    ensures answer { λ r. ⌜ r ≡ outcomeNumber outcome ⌝ }
-{
-    match outcome {
-        Outcome::Done => 0,
-        Outcome::Wrote(_) => 0,
-        Outcome::Refused(refusal) => base::number(refusal),
-    }
-}
-
-// The number of what became of a make.
-pub fn making_number(making: Making) -> u8
-    ensures answer { λ r. ⌜ r ≡ makingNumber making ⌝ }
-{
-    match making {
-        Making::Done => 0,
-        Making::Refused(refusal) => base::number(refusal),
-    }
-}
-
-// How many bytes a block out wrote.
-pub fn wrote(outcome: Outcome) -> usize
-    ensures answer { λ r. ⌜ r ≡ wroteOf outcome ⌝ }
-{
-    match outcome {
-        Outcome::Done => 0,
-        Outcome::Wrote(n) => n,
-        Outcome::Refused(_) => 0,
-    }
 }

@@ -1,12 +1,12 @@
--- `firmware::told::numbers_of` meets its contract: each number told by its own function, and that they stand for the record is `crossing`.
+-- `crossing::told::numbers_of` meets its contract: each number told by its own function, and that they stand for the record is `crossing`.
 -- Assumes nothing.
 use borrow.Author.Needs.{needs}
 use mir.Syntax.{w8, w16}
 use mir.Val.{Fits}
-use Rattle.firmware.specs.Record.{numbersOf, Within}
-use Rattle.firmware.proofs.Crossing.{crossing}
-use Rattle.firmware.proofs.told.numbers_of.Statement.{statement}
-use Rattle.firmware.proofs.told.numbers_of.Tie as tie
+use Rattle.crossing.specs.Record.{numbersOf, Within}
+use Rattle.crossing.proofs.Crossing.{crossing}
+use Rattle.crossing.proofs.told.numbers_of.Statement.{statement}
+use Rattle.crossing.proofs.told.numbers_of.Tie as tie
 
 -- the type of a record says it
 within : (s : tie.Start) → Within (s .args .card)
