@@ -6,7 +6,7 @@
 --   first-all      what holds in each of the first places holds of each card there
 --   getD-in        a card in one of the first places is one of the first cards
 --   getD-any       an element that is there does not depend on what stands for a missing one
---   below-all, bytes-held   a list of small numbers, from its elements
+--   bytes-held     a list of bytes, from its elements
 -- Assumes nothing.
 use mathlib.Core.Path.{_≡_, refl, sym, ap, ap₂, _∙_, subst}
 use mathlib.Core.List.{List, [], _∷_, _++_, map, List·Memᴰ, List·Memᴰ·head, List·Memᴰ·tail, List·Memᴰ·not-nil}
@@ -17,6 +17,7 @@ use lib.ListN.{length, take, drop, getD, set, length-map}
 use lib.Seq.{length-take-le}
 use mir.Syntax.{w8}
 use mir.Val.{Fits}
+use Rattle.crc.proofs.Bits.{below-all}
 use Rattle.crc.specs.Bits.{Below}
 use Rattle.record.specs.declared.Card.{Card}
 use Rattle.bus.specs.Bus.{countOf, cardsOf, withCards}
@@ -74,10 +75,6 @@ getD-in zero l i d h k = absurd (omega arith)
 getD-in (suc n) [] i d h k = absurd (omega arith)
 getD-in (suc n) (x ∷ l) zero d h k = List·Memᴰ·head refl
 getD-in (suc n) (x ∷ l) (suc i) d h k = List·Memᴰ·tail (getD-in n l i d (omega arith) (omega arith))
-
-pub below-all : (m : ℕ) (l : List ℕ) → ((i : ℕ) → getD l i 0 < m) → Below m l
-below-all m [] h = tt
-below-all m (x ∷ l) h = (h 0, below-all m l (λ i. h (suc i)))
 
 pub bytes-held : (l : List ℕ) (n : ℕ) → length l ≡ n → ((i : ℕ) → Fits w8 (getD l i 0)) → (length l ≡ n) × Below 256 l
 bytes-held l n e h = (e, below-all 256 l (λ i. h i .fits))

@@ -3,12 +3,10 @@
 -- Assumes nothing.
 use mathlib.Core.Bool.{Bool}
 use mathlib.Core.List.{List, [], _∷_, map}
-use Prim.Native.Nat.{ℕ, _≤_, max}
+use Prim.Native.Nat.{ℕ, max}
 use lib.ListN.{length, take, replicate}
 use Rattle.card.specs.Sent.{sentBytes}
 use Rattle.command.specs.Command.{commandOf}
-use Rattle.command.specs.declared.Sent.{Sent}
-use Rattle.command.specs.declared.Sent.the-variants.{Nothing, Status, Cid, Csd, Ocr}
 use Rattle.line.specs.Bytes.{anded}
 use Rattle.record.specs.Record.{withLink}
 use Rattle.record.specs.declared.Card.{Card}
@@ -21,14 +19,6 @@ use Rattle.bus.specs.declared.Turned.{Turned}
 -- the line before anyone sends
 unfoldable pub quiet : Heard
 quiet = record { line = replicate 17 0xFF; length = 0 }
-
--- what the writers of frames write: an R1's index has 6 bits
-abbrev pub Sendable : Sent → Type 0
-Sendable Nothing = Unit {0}
-Sendable (Status index status) = index ≤ 63
-Sendable Cid = Unit {0}
-Sendable Csd = Unit {0}
-Sendable Ocr = Unit {0}
 
 unfoldable pub heardOf : Heard → List ℕ → Heard
 heardOf heard frame = record { line = anded (heard .line) frame; length = max (heard .length) (length frame) }

@@ -1,7 +1,7 @@
 -- Document 01, "Frames and blocks": the bytes of what a card sends.
 -- Assumes nothing.
 use mathlib.Core.List.{List, []}
-use Prim.Native.Nat.{ℕ}
+use Prim.Native.Nat.{ℕ, _≤_}
 use Rattle.base.specs.Output.{fits}
 use Rattle.base.specs.declared.Written.{Written}
 use Rattle.command.specs.declared.Sent.{Sent}
@@ -25,3 +25,11 @@ sentWritten registers (Status index status) out = indexed index (sentBytes regis
 sentWritten registers Cid out = fits (sentBytes registers Cid) out
 sentWritten registers Csd out = fits (sentBytes registers Csd) out
 sentWritten registers Ocr out = fits (sentBytes registers Ocr) out
+
+-- what the writers of frames write: an R1's index has 6 bits
+abbrev pub Sendable : Sent → Type 0
+Sendable Nothing = Unit {0}
+Sendable (Status index status) = index ≤ 63
+Sendable Cid = Unit {0}
+Sendable Csd = Unit {0}
+Sendable Ocr = Unit {0}

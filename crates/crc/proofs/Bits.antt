@@ -1,5 +1,5 @@
 -- Laws of bits and bytes: what the definitions of specs/Bits spell, and that they undo each other.
---   below-append, below-take, below-drop, bitsOf-below, bits-below    lists of bits and their parts
+--   below-all, below-append, below-take, below-drop, bitsOf-below, bits-below    lists of bits and their parts
 --   bits-append               the bits of joined lists of bytes
 --   length-bitsOf, length-bits, length-octets
 --   onward-is, spelt-lt       a number spelt is what came before, moved up, plus the rest, which is small
@@ -15,12 +15,16 @@ use Prim.Native.Nat.{ℕ, zero, suc, _+_, _*_, _/_, _%_, _^_, _≤_, _<_}
 use native.Mathlib.Nat.{add-assoc, add-comm, add-mul, mul-assoc, mul-comm, pow-suc, suc-add, zero-add, zero-mul, mod-lt, mod-one, mod-eq-of-lt}
 use native.Mathlib.Omega.{arith}
 use lib.Arith.{digits-div, digits-mod, digits-lt, mod-mul}
-use lib.ListN.{length, take, drop, length-append, length-drop, take-append-drop}
+use lib.ListN.{length, take, drop, getD, length-append, length-drop, take-append-drop}
 use lib.Pow.{pow-pos, shr-shr}
 use lib.Seq.{length-take-le, take-at, drop-at}
 use Rattle.crc.specs.Bits.{bitsOf, bits, onward, spelt, octets, Below}
 
 -- ---- lists of small numbers
+pub below-all : (m : ℕ) (l : List ℕ) → ((i : ℕ) → getD l i 0 < m) → Below m l
+below-all m [] h = tt
+below-all m (x ∷ l) h = (h 0, below-all m l (λ i. h (suc i)))
+
 pub below-append : (m : ℕ) (xs ys : List ℕ) → Below m xs → Below m ys → Below m (xs ++ ys)
 below-append m [] ys h k = k
 below-append m (x ∷ xs) ys h k = (h .0, below-append m xs ys (h .1) k)

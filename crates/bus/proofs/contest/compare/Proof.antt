@@ -8,7 +8,7 @@ use borrow.Author.Needs.{needs}
 use lib.ListN.{length, getD}
 use mir.Syntax.{w8}
 use mir.Val.{Fits}
-use Rattle.bus.proofs.Lists.{below-all}
+use Rattle.crc.proofs.Bits.{below-all}
 use Rattle.bus.proofs.Numbers.{number-less, number-same}
 use Rattle.bus.proofs.Winners.{order-smaller, order-same, order-larger}
 use Rattle.bus.proofs.contest.compare.Statement.{statement}

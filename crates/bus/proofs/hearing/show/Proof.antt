@@ -9,7 +9,7 @@ use lib.ListN.{length, take, drop, getD, set}
 use mir.Syntax.{w8}
 use mir.Val.{Fits}
 use Rattle.base.proofs.Copy.{copy-turn}
-use Rattle.bus.proofs.Lists.{below-all}
+use Rattle.crc.proofs.Bits.{below-all}
 use Rattle.bus.proofs.Telling.{zeros, shown-silent, shown-bytes}
 use Rattle.bus.proofs.hearing.show.Statement.{statement}
 use Rattle.bus.proofs.hearing.show.Tie as tie

@@ -2,13 +2,13 @@
 -- Assumes nothing.
 use mathlib.Core.Path.{sym, ap, ap₂, _∙_, subst}
 use borrow.Author.Needs.{needs}
-use Rattle.card.specs.Sent.{sentBytes}
+use Rattle.card.proofs.Sending.{sendable}
+use Rattle.card.specs.Sent.{sentBytes, Sendable}
 use Rattle.command.specs.declared.Commanded.{Commanded}
 use Rattle.record.specs.Record.{withLink}
 use Rattle.record.specs.declared.Card.{Card}
-use Rattle.bus.proofs.Sending.{sendable}
 use Rattle.bus.specs.Bus.{metWith}
-use Rattle.bus.specs.Hearing.{Sendable, heardOf, turnOf}
+use Rattle.bus.specs.Hearing.{heardOf, turnOf}
 use Rattle.bus.specs.declared.Heard.{Heard}
 use Rattle.bus.specs.declared.Turned.{Turned}
 use Rattle.bus.proofs.hearing.turn.Statement.{statement}

@@ -2,7 +2,7 @@
 -- Assumes nothing.
 use borrow.Author.Needs.{needs}
 use denote.Ref.{now}
-use Rattle.bus.proofs.Lists.{below-all}
+use Rattle.crc.proofs.Bits.{below-all}
 use Rattle.crc.specs.Bits.{Below}
 use Rattle.crossing.proofs.Crossing.{own-cid, own-csd, own-password}
 use Rattle.firmware.proofs.Kept.{frame-registers, frame-lock}
