@@ -2,6 +2,7 @@
 #ifndef BENCH_H
 #define BENCH_H
 #include "measured.h"
+#include "measured_bus.h"
 
 typedef unsigned char u8;
 typedef unsigned short u16;
@@ -44,11 +45,14 @@ struct calls {
     void (*block_in)(struct measured_card *card, u8 *password, const u8 *block, usize length, u8 *memory, usize size, u8 *map, usize groups);
     void (*block_out)(struct measured_card *card, const u8 *password, const u8 *memory, usize size, const u8 *map, usize groups, u8 *out, usize room);
     void (*work_done)(struct measured_card *card, const u8 *password);
+    usize (*rounds)(const u8 *cids, usize count, usize rounds, u16 *addresses);
 };
+enum { SETS = 4 };
 
 /* Compares `ours` with `theirs` on every input; ends the program where they differ. Returns how many calls agreed. */
 usize compare(const struct calls *ours, const struct calls *theirs);
 void compare_card(const struct calls *ours, const struct calls *theirs);
+void compare_bus(const struct calls *ours, const struct calls *theirs);
 void same(int equal, const char *what, const struct calls *theirs, long at);
 
 /* Numbers and bytes by chance, the same on every machine. */
@@ -89,7 +93,8 @@ enum work {
     WRITE_CARD,
     READ_CARD,
     LOCK_REQUEST,
-    WORKS
+    WORKS,
+    ROUNDS = WORKS
 };
 void prepare(const struct calls *calls);
 void perform(const struct calls *calls, enum work work);
@@ -101,6 +106,14 @@ void prepare_card(const struct calls *calls);
 void perform_card(const struct calls *calls, enum work work);
 int performed(enum work work);
 void *card_code(const struct calls *calls, enum work work);
+
+/* Rounds on a bus, as `nights` docks its cards: a table of its own for each of their costs. */
+void perform_rounds(const struct calls *calls);
+void nights(const struct calls *sets, const char *where);
+
+/* The head of a table, and the nanoseconds of a call. */
+void head(const char *what, const char *where);
+double timed(const struct calls *calls, enum work work);
 
 /* The instructions that the work's call executes, from its first to its return, and the bytes of stack that it takes below its return
    address; or -1 where they cannot be counted. */

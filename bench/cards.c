@@ -39,7 +39,7 @@ static const struct at_card WORK[WORKS - CARD_FIRST] = {
     {"password set", BLOCK_IN, CARD(RCV_LOCK, 16, 2, .at = 0), 0, 0},
 };
 
-static u8 memory[LARGE], map[LARGE / GROUP], out[2050], frames[WORKS - CARD_FIRST][6], block[514], request[18];
+static _Alignas(64) u8 memory[LARGE], map[LARGE / GROUP], out[2050], frames[WORKS - CARD_FIRST][6], block[514], request[18];
 static struct measured_card card;
 static u8 password[16];
 

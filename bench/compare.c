@@ -218,5 +218,6 @@ usize compare(const struct calls *ours, const struct calls *theirs)
     writes(ours, theirs);
     erases(ours, theirs);
     compare_card(ours, theirs);
+    compare_bus(ours, theirs);
     return agreed;
 }

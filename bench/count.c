@@ -36,7 +36,7 @@ static const struct cost NOT_COUNTED = {-1, -1};
 
 static struct cost counted(int child, long entry)
 {
-    long limit = 4000000;
+    long limit = 40000000;
     while (ptrace(PEEKUSER, child, (long)RIP, 0L) != entry)
         if (!step(child, &limit))
             return NOT_COUNTED;

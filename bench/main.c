@@ -9,21 +9,24 @@
 #undef PREFIX
 #define PREFIX one_
 #include "plain.h"
+#undef PREFIX
+#define PREFIX one_bus_
+#include "plain.h"
 
 struct timespec {
     long seconds, nanoseconds;
 };
 int clock_gettime(int clock, struct timespec *time);
 
-#define CALLS(name, p, q) \
+#define CALLS(name, p, q, r) \
     {name,     p##crc7, p##crc16, p##read_frame, p##write_command, p##write_block, p##check_block, q##fill, \
-     q##read,  q##write, q##erase, q##frame,      q##block_in,      q##block_out,   q##work_done}
-enum { SETS = 4 };
+     q##read,  q##write, q##erase, q##frame,      q##block_in,      q##block_out,   q##work_done, \
+     r##rounds}
 static const struct calls SET[SETS] = {
-    CALLS("ours", mmc_, measured_),
-    CALLS("plain C", plain_, plain_),
-    CALLS("plain C -O2", free_, free_),
-    CALLS("plain C -O2 in one file", one_, one_),
+    CALLS("ours", mmc_, measured_, measured_),
+    CALLS("plain C", plain_, plain_, plain_),
+    CALLS("plain C -O2", free_, free_, free_),
+    CALLS("plain C -O2 in one file", one_, one_, one_bus_),
 };
 static const char *const NAMES[CARD_FIRST] = {
     "CRC16, 2,048 bytes", "CRC7, 5 bytes",   "frame read",        "frame written",  "block written, 512", "block checked, 512",
@@ -32,7 +35,8 @@ static const char *const NAMES[CARD_FIRST] = {
 /* What is wanted at most of the instructions of plain C; 0 where nothing is wanted. */
 static const double WANTED[CARD_FIRST] = {1.1, 0, 1.5, 1.5, 0, 0, 1.5, 1.5, 1.5, 1.5, 1.5, 1.5};
 
-static u8 bytes[2048], frame[6], block[514], out[2050], memory[16384];
+/* Each begins a cache line: what the C library executes to copy and fill depends on that. */
+static _Alignas(64) u8 bytes[2048], frame[6], block[514], out[2050], memory[16384];
 /* The maps of a memory of two groups: the sectors 8 to 23 lie half in the one and half in the other. */
 static const u8 OPEN[2] = {0, 0}, HALF[2] = {0, 1};
 static volatile u32 sink;
@@ -47,6 +51,30 @@ void prepare(const struct calls *calls)
     if (calls->write_command(17, 0x00012345, frame, sizeof frame) != 0 || calls->write_block(bytes, 512, block, sizeof block) != 0) {
         printf("DIFFERENT: %s does not write its own inputs\n", calls->name);
         exit(1);
+    }
+}
+
+static void perform_store(const struct calls *calls, enum work work)
+{
+    switch (work) {
+    case FILL:
+        calls->fill(memory, 8192);
+        break;
+    case READ_512:
+        sink = calls->read(memory, sizeof memory, 512, out, 512);
+        break;
+    case READ_2048:
+        sink = calls->read(memory, sizeof memory, 512, out, 2048);
+        break;
+    case WRITE_SECTOR:
+        calls->write(memory, sizeof memory, 1, bytes);
+        break;
+    case ERASE:
+        sink = calls->erase(memory, sizeof memory, OPEN, 2, 8, 23);
+        break;
+    default:
+        sink = calls->erase(memory, sizeof memory, HALF, 2, 8, 23);
+        break;
     }
 }
 
@@ -74,26 +102,13 @@ void perform(const struct calls *calls, enum work work)
     case CHECK_BLOCK:
         sink = calls->check_block(block, 514);
         break;
-    case FILL:
-        calls->fill(memory, 8192);
-        break;
-    case READ_512:
-        sink = calls->read(memory, sizeof memory, 512, out, 512);
-        break;
-    case READ_2048:
-        sink = calls->read(memory, sizeof memory, 512, out, 2048);
-        break;
-    case WRITE_SECTOR:
-        calls->write(memory, sizeof memory, 1, bytes);
-        break;
-    case ERASE:
-        sink = calls->erase(memory, sizeof memory, OPEN, 2, 8, 23);
-        break;
-    case ERASE_HALF:
-        sink = calls->erase(memory, sizeof memory, HALF, 2, 8, 23);
-        break;
     default:
-        perform_card(calls, work);
+        if (work < CARD_FIRST)
+            perform_store(calls, work);
+        else if (work < ROUNDS)
+            perform_card(calls, work);
+        else
+            perform_rounds(calls);
         break;
     }
 }
@@ -106,7 +121,7 @@ void *code_of(const struct calls *calls, enum work work)
         (void *)calls->fill,          (void *)calls->read,        (void *)calls->read,
         (void *)calls->write,         (void *)calls->erase,       (void *)calls->erase,
     };
-    return work < CARD_FIRST ? code[work] : card_code(calls, work);
+    return work < CARD_FIRST ? code[work] : work == ROUNDS ? (void *)calls->rounds : card_code(calls, work);
 }
 
 static double now(void)
@@ -116,12 +131,12 @@ static double now(void)
     return (double)t.seconds * 1e9 + (double)t.nanoseconds;
 }
 
-/* Nanoseconds of a call: the least of nine rounds, since whatever else the machine does only adds. */
-static double timed(const struct calls *calls, enum work work)
+/* Nanoseconds of a call: the least of ninety short rounds, since whatever else the machine does only adds. */
+double timed(const struct calls *calls, enum work work)
 {
     double least = 1e18;
-    int turns = work == CRC16 ? 500 : work >= WRITE_BLOCK ? 2000 : 100000;
-    for (int round = 0; round < 9; round++) {
+    int turns = work == ROUNDS ? 20 : work == CRC16 ? 100 : work >= WRITE_BLOCK ? 500 : 10000;
+    for (int round = 0; round < 90; round++) {
         double start = now();
         for (int i = 0; i < turns; i++)
             perform(calls, work);
@@ -137,7 +152,7 @@ static const char *name_of(int work)
     return work < CARD_FIRST ? NAMES[work] : card_work((enum work)work);
 }
 
-static void head(const char *what, const char *where)
+void head(const char *what, const char *where)
 {
     printf("\n%s%s\n%-22s %8s", what, where, "", "ours");
     printf(" %8s %6s %8s %6s %8s %6s\n", "plain C", "ratio", "C -O2", "ratio", "one file", "ratio");
@@ -212,5 +227,6 @@ int main(int argc, char **argv)
     counts();
     stacks();
     times(argc > 1 ? argv[1] : "");
+    nights(SET, argc > 1 ? argv[1] : "");
     return 0;
 }

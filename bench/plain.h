@@ -17,3 +17,4 @@ void PLAIN(frame)(struct measured_card *card, u8 *password, const u8 *frame, usi
 void PLAIN(block_in)(struct measured_card *card, u8 *password, const u8 *block, usize length, u8 *memory, usize size, u8 *map, usize groups);
 void PLAIN(block_out)(struct measured_card *card, const u8 *password, const u8 *memory, usize size, const u8 *map, usize groups, u8 *out, usize room);
 void PLAIN(work_done)(struct measured_card *card, const u8 *password);
+usize PLAIN(rounds)(const u8 *cids, usize count, usize rounds, u16 *addresses);
