@@ -5,7 +5,7 @@ use mathlib.Core.List.{List, [], _∷_}
 use Prim.Native.Nat.{ℕ}
 use lib.Dec.{eqb}
 use Rattle.base.specs.Choice.{pick}
-use Rattle.moves.specs.Rules.{inRow}
+use Rattle.moves.specs.Moves.{inRow}
 use Rattle.moves.specs.declared.Row.{Row}
 use Rattle.moves.specs.declared.Row.the-variants.{OpCondAsked, OpCondShared, AllSendCidWon, SetRelativeAddr, SelectCard, SendRegister, StopTransmission, SendStatus, SetOrTag, Read, Write, Program}
 use Rattle.record.specs.Record.{withErrors}

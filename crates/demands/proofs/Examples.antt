@@ -20,7 +20,6 @@ use Rattle.lock.specs.Passwords.{noPassword}
 use Rattle.moves.specs.Classes.{classOf}
 use Rattle.moves.specs.Moves.{moveOf}
 use Rattle.moves.specs.Rows.{transferRow, rowOf}
-use Rattle.moves.specs.Rules.{legal}
 use Rattle.record.specs.declared.Card.{Card}
 use Rattle.record.specs.declared.Link.{Link}
 use Rattle.states.specs.declared.Column.the-variants as column
@@ -53,7 +52,7 @@ pub passed-over-met : PassedOver (linked Tran) (meeting false) 13 0x00020000
 passed-over-met = PassedOver.another-address refl (λ e. omega arith)
 
 pub no-move-met : NoLegalMove (linked Stby) (meeting false) 17 0 × NoLegalMove (linked Prg) (meeting false) 24 0
-unfolding rowOf transferRow legal
+unfolding rowOf transferRow
 no-move-met = (record { judged = refl; selects = refl; stuck = refl }, record { judged = refl; selects = refl; stuck = refl })
 
 abbrev inTran : Card

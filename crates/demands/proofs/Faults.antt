@@ -22,9 +22,8 @@ use Rattle.moves.proofs.Among.{All, each}
 use Rattle.moves.proofs.Orders.{everywhere}
 use Rattle.moves.specs.Classes.{classOf}
 use Rattle.moves.specs.Indices.{among}
-use Rattle.moves.specs.Moves.{moveOf}
+use Rattle.moves.specs.Moves.{inRow, moveOf}
 use Rattle.moves.specs.Rows.{own, transferRow, rowOf}
-use Rattle.moves.specs.Rules.{inRow}
 use Rattle.moves.specs.declared.Asked.{Asked}
 use Rattle.moves.specs.declared.Move.{Move}
 use Rattle.moves.specs.declared.Move.the-variants.{Ignored, Silent, Illegal, To}

@@ -22,9 +22,8 @@ use Rattle.moves.proofs.Among.{each}
 use Rattle.moves.proofs.Laws.{inactive, bit-22-states}
 use Rattle.moves.proofs.Orders.{moveNumber, movesNumbered, everywhere}
 use Rattle.moves.proofs.Spans.{told}
-use Rattle.moves.specs.Moves.{moveOf}
+use Rattle.moves.specs.Moves.{inState, inRow, legal, unjudged, noLegalMove, moveOf}
 use Rattle.moves.specs.Rows.{window, rowOf}
-use Rattle.moves.specs.Rules.{inState, inRow, legal, unjudged, noLegalMove}
 use Rattle.moves.specs.declared.Asked.{Asked}
 use Rattle.moves.specs.declared.Move.{Move}
 use Rattle.moves.specs.declared.Move.the-variants.{Ignored, Silent, Illegal, To}
@@ -77,7 +76,7 @@ abbrev moveless : Row → Column → Bool
 moveless row column = pick (inRow row unjudged) false (pick (inRow row (DeselectCard ∷ [])) false (noneFrom column (legal row)))
 
 moveless-marked : (row : Row) (column : Column) → T (pick (moveless row column) (eqb (moveNumber (moveOf row column)) (moveNumber (noLegalMove column))) true)
-unfolding moveOf legal
+unfolding moveOf
 moveless-marked =
     everywhere (λ row column. pick (moveless row column) (eqb (moveNumber (moveOf row column)) (moveNumber (noLegalMove column))) true) tt
 

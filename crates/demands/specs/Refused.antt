@@ -16,7 +16,7 @@ use Rattle.card.specs.declared.Call.the-variants.{Frame, BlockIn, BlockOut, Wor
 use Rattle.card.specs.declared.Outcome.the-variants.{Refused}
 use Rattle.command.specs.declared.Sent.the-variants.{Nothing}
 use Rattle.moves.specs.Indices.{among}
-use Rattle.moves.specs.Rules.{inState}
+use Rattle.moves.specs.Moves.{inState}
 use Rattle.record.specs.Record.{withState, withErrors, withLink}
 use Rattle.record.specs.declared.Card.{Card}
 use Rattle.states.specs.States.{columnOf}

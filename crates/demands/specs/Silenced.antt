@@ -16,9 +16,8 @@ use Rattle.command.specs.Command.{askedOf, commandOf}
 use Rattle.command.specs.declared.Commanded.{Commanded}
 use Rattle.command.specs.declared.Met.{Met}
 use Rattle.moves.specs.Indices.{among}
-use Rattle.moves.specs.Moves.{moveOf}
+use Rattle.moves.specs.Moves.{inState, inRow, legal, unjudged, moveOf}
 use Rattle.moves.specs.Rows.{rowOf}
-use Rattle.moves.specs.Rules.{inState, inRow, legal, unjudged}
 use Rattle.moves.specs.declared.Move.the-variants.{To}
 use Rattle.moves.specs.declared.Row.{Row}
 use Rattle.moves.specs.declared.Row.the-variants.{DeselectCard}

@@ -19,7 +19,6 @@ use Rattle.moves.specs.Classes.{classOf}
 use Rattle.moves.specs.Indices.{among}
 use Rattle.moves.specs.Moves.{moveOf}
 use Rattle.moves.specs.Rows.{own, transferRow, rowOf}
-use Rattle.moves.specs.Rules.{legal}
 use Rattle.moves.specs.declared.Move.the-variants.{To}
 use Rattle.moves.specs.declared.Row.{Row}
 use Rattle.moves.specs.declared.Row.the-variants.{GoIdleState, SetRelativeAddr, SetDsr, StopTransmission, SendStatus, SetOrTag, Read, Write, Program, OtherAddress, Unsupported}
@@ -196,7 +195,7 @@ module _ (c : Meeting) where
       picked (At c index) (among index indices) (each (λ (i : ℕ). At c i row) indices all index) (λ t. others)
 
   transfers : (index : ℕ) → At c index (transferRow index)
-  unfolding transferRow legal
+  unfolding transferRow
   transfers index =
       on index (16 ∷ 32 ∷ 33 ∷ 35 ∷ 36 ∷ []) _ _ (lengthened, (sector-start, (sector-end, (group-start, (group-end, tt)))))
       (on index (17 ∷ 18 ∷ 30 ∷ []) _ _ (read-one, (read-many, (read-protection, tt)))
@@ -204,7 +203,7 @@ module _ (c : Meeting) where
       (on index (28 ∷ 29 ∷ 38 ∷ []) _ _ (protect, (unprotect, (erase, tt))) (unmoved c index Unsupported refl))))
 
   commanded : (index : ℕ) → At c index (rowOf (asked c index))
-  unfolding rowOf classOf taggingOf argumentFault obeyed awaitedBy legal
+  unfolding rowOf classOf taggingOf argumentFault obeyed awaitedBy
   commanded index =
       on index (0 ∷ []) _ _ (idle, tt)
       (on index (1 ∷ []) _ _ (plain 1 _ refl refl refl (λ column. refl), tt)

@@ -19,8 +19,7 @@ use Rattle.command.specs.declared.Commanded.{Commanded}
 use Rattle.command.specs.declared.Met.{Met}
 use Rattle.command.specs.declared.Response.the-variants.{R1}
 use Rattle.moves.proofs.Laws.{listed}
-use Rattle.moves.specs.Moves.{moveOf}
-use Rattle.moves.specs.Rules.{legal}
+use Rattle.moves.specs.Moves.{legal, moveOf}
 use Rattle.moves.specs.declared.Asked.{Asked}
 use Rattle.moves.specs.declared.Move.{Move}
 use Rattle.moves.specs.declared.Move.the-variants.{Ignored, Silent, Illegal, To}

@@ -1,5 +1,4 @@
--- What follows from the table of moves, the rules that fill it, and the lists of commands.
---   table-is-rule   each entry of the table is what document 01's rules give: one test over the whole table
+-- What follows from the rules of the moves and the lists of commands.
 --   listed          a move is one of those that the table's column "Move" lists for its row
 --   inactive        an Inactive card ignores every row
 --   bit-22-states   a row is illegal in tran, data, rcv and prg only
@@ -19,13 +18,12 @@ use Rattle.states.specs.States.{numberOf}
 use Rattle.states.specs.declared.Column.{Column}
 use Rattle.states.specs.declared.Column.the-variants.{Tran, Data, Rcv, Prg, Ina}
 use Rattle.moves.proofs.Among.{each}
-use Rattle.moves.proofs.Orders.{moveNumber, movesNumbered, rowsNumbered, everywhere}
+use Rattle.moves.proofs.Orders.{rowsNumbered, everywhere}
 use Rattle.moves.proofs.Spans.{told}
 use Rattle.moves.specs.Classes.{classOf, classNumber}
 use Rattle.moves.specs.Indices.{among}
-use Rattle.moves.specs.Moves.{rowNumber, moveOf}
+use Rattle.moves.specs.Moves.{rowNumber, inState, inRow, legal, moveOf}
 use Rattle.moves.specs.Rows.{window, opCondRow, cidRow, transferRow, rowOf}
-use Rattle.moves.specs.Rules.{inState, inRow, legal, ruleOf}
 use Rattle.moves.specs.declared.Asked.{Asked}
 use Rattle.moves.specs.declared.Class.{Class}
 use Rattle.moves.specs.declared.Class.the-variants as class
@@ -33,13 +31,6 @@ use Rattle.moves.specs.declared.Move.{Move}
 use Rattle.moves.specs.declared.Move.the-variants.{Ignored, Silent, Illegal, To}
 use Rattle.moves.specs.declared.Row.{Row}
 use Rattle.moves.specs.declared.Row.the-variants.{OpCondAsked, OpCondShared, OpCondApart, AllSendCidWon, AllSendCidLost, SetRelativeAddr, SetDsr, Unsupported}
-
-abbrev ruled : Row → Column → Bool
-ruled row column = eqb (moveNumber (moveOf row column)) (moveNumber (ruleOf row column))
-
-pub table-is-rule : (row : Row) (column : Column) → moveOf row column ≡ ruleOf row column
-unfolding moveOf ruleOf legal
-table-is-rule row column = told movesNumbered (moveOf row column) (ruleOf row column) (everywhere ruled tt row column)
 
 -- from a state to a state is among the pairs
 abbrev pub pairIn : Column → Column → List (Column × Column) → Bool
@@ -58,12 +49,12 @@ abbrev fair : Row → Column → Bool
 fair row column = lawful (moveOf row column) column (legal row)
 
 pub listed : (row : Row) (from there : Column) → moveOf row from ≡ To there → T (pairIn from there (legal row))
-unfolding moveOf legal
+unfolding moveOf
 listed row from there e = subst (λ (m : Move). T (lawful m from (legal row))) e (everywhere fair tt row from)
 
 pub inactive : (row : Row) → moveOf row Ina ≡ Ignored
-unfolding ruleOf
-inactive row = table-is-rule row Ina
+unfolding moveOf
+inactive row = refl
 
 -- a test that has to hold only where a row is illegal
 abbrev ifIllegal : Move → Bool → Bool

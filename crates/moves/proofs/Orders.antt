@@ -32,7 +32,7 @@ rows =
     GoIdleState ∷ OpCondAsked ∷ OpCondShared ∷ OpCondApart ∷ AllSendCidWon ∷ AllSendCidLost ∷ SetRelativeAddr ∷ SetDsr ∷ SelectCard ∷
     DeselectCard ∷ SendRegister ∷ StopTransmission ∷ SendStatus ∷ GoInactiveState ∷ SetOrTag ∷ Read ∷ Write ∷ Program ∷ OtherAddress ∷ Unsupported ∷ []
 
-abbrev rowBy : ℕ → Row
+abbrev pub rowBy : ℕ → Row
 rowBy n = getD rows n GoIdleState
 
 pub row-placed : (row : Row) → (rowNumber row < 20) × (rowBy (rowNumber row) ≡ row)

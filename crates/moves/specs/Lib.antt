@@ -2,4 +2,4 @@ pub mod Classes
 pub mod Indices
 pub mod Moves
 pub mod Rows
-pub mod Rules
+pub mod Table

@@ -1,11 +1,15 @@
--- Document 01, "How a card takes a frame": "The legal moves stand as one fixed table".
+-- Document 01, "How a card takes a frame": "The legal moves stand as one fixed table". Where the table has an entry for each command in
+-- each state, these rules say which commands move from where to where, and which check stops the others.
 -- Assumes nothing.
-use mathlib.Core.List.{List, [], _∷_}
+use mathlib.Core.Bool.{Bool}
+use mathlib.Core.List.{List, [], _∷_, map}
 use Prim.Native.Nat.{ℕ}
-use lib.ListN.{getD}
+use lib.Dec.{eqb}
+use Rattle.base.specs.Choice.{pick}
 use Rattle.states.specs.States.{numberOf}
 use Rattle.states.specs.declared.Column.{Column}
 use Rattle.states.specs.declared.Column.the-variants.{Idle, Ready, Ident, Stby, Tran, Data, Rcv, Prg, Dis, Ina}
+use Rattle.moves.specs.Indices.{among}
 use Rattle.moves.specs.declared.Move.{Move}
 use Rattle.moves.specs.declared.Move.the-variants.{Ignored, Silent, Illegal, To}
 use Rattle.moves.specs.declared.Row.{Row}
@@ -34,95 +38,64 @@ rowNumber Program = 17
 rowNumber OtherAddress = 18
 rowNumber Unsupported = 19
 
--- the entries: the state that a command leads to
-abbrev idl : Move
-idl = To Idle
+-- a state, or a row, is one of those listed
+abbrev pub inState : Column → List Column → Bool
+inState column columns = among (numberOf column) (map numberOf columns)
 
-abbrev rdy : Move
-rdy = To Ready
+abbrev pub inRow : Row → List Row → Bool
+inRow row rows = among (rowNumber row) (map rowNumber rows)
 
-abbrev idt : Move
-idt = To Ident
+-- from a state to a state
+infixl 70 _to_
+abbrev pub _to_ : Column → Column → Column × Column
+_to_ from there = (from, there)
 
-abbrev stb : Move
-stb = To Stby
+abbrev pub stays : Column → Column × Column
+stays column = column to column
 
-abbrev trn : Move
-trn = To Tran
+-- "stby, tran, data, rcv, prg, dis": "those six"
+abbrev pub six : List Column
+six = Stby ∷ Tran ∷ Data ∷ Rcv ∷ Prg ∷ Dis ∷ []
 
-abbrev dat : Move
-dat = To Data
+-- the table's column "Move"; CMD0 is "legal .. in every state but Inactive"
+abbrev pub legal : Row → List (Column × Column)
+legal GoIdleState = map (λ (from : Column). from to Idle) (Idle ∷ Ready ∷ Ident ∷ six)
+legal OpCondAsked = stays Idle ∷ []
+legal OpCondShared = Idle to Ready ∷ []
+legal OpCondApart = Idle to Ina ∷ []
+legal AllSendCidWon = Ready to Ident ∷ []
+legal AllSendCidLost = []
+legal SetRelativeAddr = Ident to Stby ∷ []
+legal SetDsr = []
+legal SelectCard = Stby to Tran ∷ Dis to Prg ∷ []
+legal DeselectCard = Tran to Stby ∷ Data to Stby ∷ Prg to Dis ∷ []
+legal SendRegister = stays Stby ∷ []
+legal StopTransmission = Data to Tran ∷ Rcv to Prg ∷ []
+legal SendStatus = map stays six
+legal GoInactiveState = map (λ (from : Column). from to Ina) six
+legal SetOrTag = stays Tran ∷ []
+legal Read = Tran to Data ∷ []
+legal Write = Tran to Rcv ∷ []
+legal Program = Tran to Prg ∷ []
+legal OtherAddress = []
+legal Unsupported = []
 
-abbrev rcv : Move
-rcv = To Rcv
+-- where the legal moves lead from a state, or else a mark
+abbrev pub leads : List (Column × Column) → Column → Move → Move
+leads [] column mark = mark
+leads (pair ∷ pairs) column mark = pick (eqb (numberOf column) (numberOf (pair .0))) (To (pair .1)) (leads pairs column mark)
 
-abbrev prg : Move
-prg = To Prg
+-- check 3: "CMD9, 10, 13, 15 for another address .. CMD4 always; CMD1, 2, 3 outside their state", and a loser of CMD2
+abbrev pub unjudged : List Row
+unjudged = OtherAddress ∷ SetDsr ∷ OpCondAsked ∷ OpCondShared ∷ OpCondApart ∷ AllSendCidWon ∷ AllSendCidLost ∷ SetRelativeAddr ∷ []
 
-abbrev dis : Move
-dis = To Dis
+-- check 4: "in tran, data, rcv or prg, silent with bit 22; elsewhere silent, unchanged"
+abbrev pub noLegalMove : Column → Move
+noLegalMove column = pick (inState column (Tran ∷ Data ∷ Rcv ∷ Prg ∷ [])) Illegal Ignored
 
-abbrev ina : Move
-ina = To Ina
-
-abbrev ign : Move
-ign = Ignored
-
-abbrev sil : Move
-sil = Silent
-
-abbrev ill : Move
-ill = Illegal
-
--- the table: a line for each row, against the ten states
-abbrev pub moves : List (List Move)
-moves =
-    -- in: idle  ready ident stby  tran  data  rcv   prg   dis   ina
-    -- CMD0
-    (idl ∷ idl ∷ idl ∷ idl ∷ idl ∷ idl ∷ idl ∷ idl ∷ idl ∷ ign ∷ []) ∷
-    -- CMD1, window 0
-    (idl ∷ sil ∷ sil ∷ sil ∷ sil ∷ sil ∷ sil ∷ sil ∷ sil ∷ ign ∷ []) ∷
-    -- CMD1, window shares a bit with the OCR
-    (rdy ∷ sil ∷ sil ∷ sil ∷ sil ∷ sil ∷ sil ∷ sil ∷ sil ∷ ign ∷ []) ∷
-    -- CMD1, else
-    (ina ∷ sil ∷ sil ∷ sil ∷ sil ∷ sil ∷ sil ∷ sil ∷ sil ∷ ign ∷ []) ∷
-    -- CMD2, won
-    (sil ∷ idt ∷ sil ∷ sil ∷ sil ∷ sil ∷ sil ∷ sil ∷ sil ∷ ign ∷ []) ∷
-    -- CMD2, lost
-    (sil ∷ sil ∷ sil ∷ sil ∷ sil ∷ sil ∷ sil ∷ sil ∷ sil ∷ ign ∷ []) ∷
-    -- CMD3
-    (sil ∷ sil ∷ stb ∷ sil ∷ sil ∷ sil ∷ sil ∷ sil ∷ sil ∷ ign ∷ []) ∷
-    -- CMD4
-    (sil ∷ sil ∷ sil ∷ sil ∷ sil ∷ sil ∷ sil ∷ sil ∷ sil ∷ ign ∷ []) ∷
-    -- CMD7, own
-    (ign ∷ ign ∷ ign ∷ trn ∷ ill ∷ ill ∷ ill ∷ ill ∷ prg ∷ ign ∷ []) ∷
-    -- CMD7, other
-    (ign ∷ ign ∷ ign ∷ ign ∷ stb ∷ stb ∷ ign ∷ dis ∷ ign ∷ ign ∷ []) ∷
-    -- CMD9, 10
-    (ign ∷ ign ∷ ign ∷ stb ∷ ill ∷ ill ∷ ill ∷ ill ∷ ign ∷ ign ∷ []) ∷
-    -- CMD12
-    (ign ∷ ign ∷ ign ∷ ign ∷ ill ∷ trn ∷ prg ∷ ill ∷ ign ∷ ign ∷ []) ∷
-    -- CMD13
-    (ign ∷ ign ∷ ign ∷ stb ∷ trn ∷ dat ∷ rcv ∷ prg ∷ dis ∷ ign ∷ []) ∷
-    -- CMD15
-    (ign ∷ ign ∷ ign ∷ ina ∷ ina ∷ ina ∷ ina ∷ ina ∷ ina ∷ ign ∷ []) ∷
-    -- CMD16, 32, 33, 35, 36
-    (ign ∷ ign ∷ ign ∷ ign ∷ trn ∷ ill ∷ ill ∷ ill ∷ ign ∷ ign ∷ []) ∷
-    -- CMD17, 18, 30
-    (ign ∷ ign ∷ ign ∷ ign ∷ dat ∷ ill ∷ ill ∷ ill ∷ ign ∷ ign ∷ []) ∷
-    -- CMD24, 25, 42
-    (ign ∷ ign ∷ ign ∷ ign ∷ rcv ∷ ill ∷ ill ∷ ill ∷ ign ∷ ign ∷ []) ∷
-    -- CMD28, 29, 38
-    (ign ∷ ign ∷ ign ∷ ign ∷ prg ∷ ill ∷ ill ∷ ill ∷ ign ∷ ign ∷ []) ∷
-    -- CMD9, 10, 13, 15 for another address
-    (sil ∷ sil ∷ sil ∷ sil ∷ sil ∷ sil ∷ sil ∷ sil ∷ sil ∷ ign ∷ []) ∷
-    -- unsupported
-    (ign ∷ ign ∷ ign ∷ ign ∷ ill ∷ ill ∷ ill ∷ ill ∷ ign ∷ ign ∷ []) ∷ []
-
--- the entry of a line at a place
-abbrev pub entryAt : ℕ → ℕ → Move
-entryAt line place = getD (getD moves line []) place Ignored
-
--- where a row leads from a state
+-- where a row leads from a state: check 1, "Inactive: silent, unchanged"; the legal moves; check 3; "CMD7 for another address in rcv is
+-- silent, unchanged"; check 4
 unfoldable pub moveOf : Row → Column → Move
-moveOf row column = entryAt (rowNumber row) (numberOf column)
+moveOf row column =
+    pick (inState column (Ina ∷ [])) Ignored
+    (leads (legal row) column (pick (inRow row unjudged) Silent (pick (inRow row (DeselectCard ∷ [])) Ignored (noLegalMove column))))

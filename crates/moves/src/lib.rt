@@ -5,12 +5,13 @@
 mod table;
 
 use states::Column;
+use table::Entry;
 use table::MOVES;
 ghost use mathlib.Core.Path.{_≡_};
-ghost use Prim.Native.Nat.{_<_};
 ghost use Rattle.moves.specs.Classes.{classOf};
-ghost use Rattle.moves.specs.Moves.{rowNumber, entryAt, moveOf};
+ghost use Rattle.moves.specs.Moves.{rowNumber, moveOf};
 ghost use Rattle.moves.specs.Rows.{own, window, opCondRow, cidRow, selectRow, forCard, transferRow, rowOf};
+ghost use Rattle.moves.specs.Table.{meantBy, Ruled};
 
 // The standard's classes, as far as the base has commands of them.
 pub enum Class {
@@ -125,22 +126,44 @@ fn row_number(row: Row) -> usize
     }
 }
 
-// The entry at a place of the table: the only look into it, since a constant is built anew wherever
-// it is named.
-fn entry(line: usize, place: usize) -> Move
-    requires { ⌜ (line < 20) × (place < 10) ⌝ }
-    ensures { λ r. ⌜ r ≡ entryAt line place ⌝ }
+// The table by its rule: the only place that names it, since a constant is built anew wherever it
+// is named.
+fn legal_moves() -> [[Entry; 10]; 20]
+    ensures { λ r. ⌜ Ruled r ⌝ }
 {
-    MOVES[line][place]
+    MOVES
+}
+
+// The move that an entry stands for.
+fn meant(entry: Entry) -> Move
+    ensures { λ r. ⌜ r ≡ meantBy entry ⌝ }
+{
+    match entry {
+        Entry::Idle => Move::To(Column::Idle),
+        Entry::Ready => Move::To(Column::Ready),
+        Entry::Ident => Move::To(Column::Ident),
+        Entry::Stby => Move::To(Column::Stby),
+        Entry::Tran => Move::To(Column::Tran),
+        Entry::Data => Move::To(Column::Data),
+        Entry::Rcv => Move::To(Column::Rcv),
+        Entry::Prg => Move::To(Column::Prg),
+        Entry::Dis => Move::To(Column::Dis),
+        Entry::Ina => Move::To(Column::Ina),
+        Entry::Ignored => Move::Ignored,
+        Entry::Silent => Move::Silent,
+        Entry::Illegal => Move::Illegal,
+    }
 }
 
 // Where a row leads from a state.
 pub fn next(row: Row, column: Column) -> Move
     ensures answer { λ r. ⌜ r ≡ moveOf row column ⌝ }
 {
+    let table = legal_moves();
     let line = row_number(row);
     let place = states::number(column) as usize;
-    entry(line, place)
+    let entry = table[line][place];
+    meant(entry)
 }
 
 // CMD1 by its window, bits 23..0.

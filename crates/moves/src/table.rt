@@ -1,35 +1,51 @@
 // Document 01's legal moves as one fixed table: a line for each `Row`, in its order, against the ten
-// states. An entry is the state that the command leads to, or the mark of a command with no move.
-use crate::Move;
-use states::Column;
+// states. An entry is one byte and holds nothing, since the table is laid out anew wherever it is
+// named: entries that hold a state leave gaps, around which it is stored piece by piece.
 
-const IDL: Move = Move::To(Column::Idle);
+// The state that a command leads to, or the mark of one with no move.
+pub enum Entry {
+    Idle,
+    Ready,
+    Ident,
+    Stby,
+    Tran,
+    Data,
+    Rcv,
+    Prg,
+    Dis,
+    Ina,
+    Ignored,
+    Silent,
+    Illegal,
+}
 
-const RDY: Move = Move::To(Column::Ready);
+const IDL: Entry = Entry::Idle;
 
-const IDT: Move = Move::To(Column::Ident);
+const RDY: Entry = Entry::Ready;
 
-const STB: Move = Move::To(Column::Stby);
+const IDT: Entry = Entry::Ident;
 
-const TRN: Move = Move::To(Column::Tran);
+const STB: Entry = Entry::Stby;
 
-const DAT: Move = Move::To(Column::Data);
+const TRN: Entry = Entry::Tran;
 
-const RCV: Move = Move::To(Column::Rcv);
+const DAT: Entry = Entry::Data;
 
-const PRG: Move = Move::To(Column::Prg);
+const RCV: Entry = Entry::Rcv;
 
-const DIS: Move = Move::To(Column::Dis);
+const PRG: Entry = Entry::Prg;
 
-const INA: Move = Move::To(Column::Ina);
+const DIS: Entry = Entry::Dis;
+
+const INA: Entry = Entry::Ina;
 // Nothing, where the source document has a dash; check 3; check 4 in tran, data, rcv and prg.
-const IGN: Move = Move::Ignored;
+const IGN: Entry = Entry::Ignored;
 
-const SIL: Move = Move::Silent;
+const SIL: Entry = Entry::Silent;
 
-const ILL: Move = Move::Illegal;
+const ILL: Entry = Entry::Illegal;
 
-pub const MOVES: [[Move; 10]; 20] = [
+pub const MOVES: [[Entry; 10]; 20] = [
     // idl  rdy  idt  stb  trn  dat  rcv  prg  dis  ina: the state in which the command comes
     [IDL, IDL, IDL, IDL, IDL, IDL, IDL, IDL, IDL, IGN], // CMD0
     [IDL, SIL, SIL, SIL, SIL, SIL, SIL, SIL, SIL, IGN], // CMD1, window 0
