@@ -133,6 +133,12 @@ blockJudged card block memory map =
 unfoldable pub keptOf : List ℕ → List ℕ
 keptOf block = take 512 block ++ replicate (512 - length block) 0
 
+-- what is kept until it is stored: these bytes where a sector is to be stored, and else zeros
+abbrev pub keptFor : List ℕ → Storing → List ℕ
+keptFor block Nothing = replicate 512 0
+keptFor block (Sector sector) = keptOf block
+keptFor block All = replicate 512 0
+
 -- the contents afterwards
 abbrev pub storedBy : List ℕ → List ℕ → Storing → List ℕ
 storedBy kept memory Nothing = memory

@@ -16,8 +16,9 @@ use status::Errors;
 use status::Fault;
 use wire::Checked;
 ghost use mathlib.Core.Path.{_≡_};
+ghost use Prim.Native.Nat.{min};
 ghost use lib.ListN.{length};
-ghost use Rattle.card.specs.BlockIn.{awaitedLength, afterRefused, afterStored, withFault, blockRefused, blockGood, writeJudged, requestJudged, carriedOut, awaitedJudged, unread, stateJudged, blockJudged, keptOf, storedBy, clearedBy};
+ghost use Rattle.card.specs.BlockIn.{awaitedLength, afterRefused, afterStored, withFault, blockRefused, blockGood, writeJudged, requestJudged, carriedOut, awaitedJudged, unread, stateJudged, blockJudged, keptOf, keptFor, storedBy, clearedBy};
 
 // The bytes that are awaited.
 fn awaited_length(card: Card, incoming: Incoming) -> usize
@@ -219,20 +220,39 @@ fn judge(card: Card, block: &[u8], memory: usize, map: &[u8]) -> BlockJudged
     state_judged(card, state, block, map)
 }
 
-// The first 512 bytes of a block: what a write keeps until it is stored.
-fn kept(block: &[u8]) -> [u8; 512]
+// How many bytes of a block a sector takes.
+fn sector_part(length: usize) -> usize
+    ensures { λ r. ⌜ r ≡ min length 512 ⌝ }
+{
+    if length < 512 {
+        return length;
+    }
+    512
+}
+
+// The first 512 bytes of a block.
+fn front(block: &[u8]) -> [u8; 512]
     ensures { λ r. ⌜ r ≡ keptOf (now (block .entry)) ⌝ }
 {
     let mut bytes = [0; 512];
+    let n = sector_part(block.len());
     let mut i: usize = 0;
-    while i < 512 {
-        if block.len() <= i {
-            return bytes;
-        }
+    while i < n {
         bytes[i] = block[i];
         i += 1;
     }
     bytes
+}
+
+// What a write keeps until it is stored. Where no sector is to be stored nothing is copied.
+fn kept(storing: Storing, block: &[u8]) -> [u8; 512]
+    ensures { λ r. ⌜ r ≡ keptFor (now (block .entry)) storing ⌝ }
+{
+    match storing {
+        Storing::Nothing => [0; 512],
+        Storing::Sector(_) => front(block),
+        Storing::All => [0; 512],
+    }
 }
 
 // What was judged carried out on the memory and the map.
@@ -258,6 +278,6 @@ pub fn block_in(card: Card, block: &[u8], memory: &mut [u8], map: &mut [u8]) -> 
 {
     let judged = judge(card, block, memory.len(), map);
     let storing = judged.storing;
-    store(storing, kept(block), memory, map);
+    store(storing, kept(storing, block), memory, map);
     judged.stepped
 }

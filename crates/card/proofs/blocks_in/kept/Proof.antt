@@ -1,83 +1,17 @@
--- `card::blocks_in::kept` meets its contract: the loop's invariant: the bytes passed stand at the front, and zeros behind them.
+-- `card::blocks_in::kept` meets its contract: each arm is told what is to be stored.
 -- Assumes nothing.
-use mathlib.Core.Path.{_≡_, refl, sym, ap, ap₂, _∙_}
-use mathlib.Core.List.{List, _++_}
-use Prim.Native.Nat.{ℕ, _+_, _-_, _≤_}
-use native.Mathlib.Omega.{arith}
 use borrow.Author.Needs.{needs}
-use denote.Ref.{now}
-use lib.ListN.{length, take, drop, getD, set, replicate, length-replicate, replicate-append-replicate}
-use lib.Seq.{take-all, drop-at}
-use Rattle.base.proofs.Copy.{copy-turn}
-use Rattle.card.specs.BlockIn.{keptOf}
 use Rattle.card.proofs.blocks_in.kept.Statement.{statement}
 use Rattle.card.proofs.blocks_in.kept.Tie as tie
-
--- the array that the copy begins with
-unfoldable zeros : List ℕ
-zeros = replicate 512 0
-
-zeros-long : length zeros ≡ 512
-unfolding zeros
-zeros-long = length-replicate {A = ℕ} 512 0
-
-zeros-left : (i : ℕ) → i ≤ 512 → drop i zeros ≡ replicate (512 - i) 0
-unfolding zeros
-zeros-left i h =
-    let e : 512 ≡ i + (512 - i) = omega arith in
-    ap (λ (n : ℕ). drop i (replicate n 0)) e
-    ∙ ap (drop i) (sym (replicate-append-replicate i (512 - i) 0))
-    ∙ drop-at (replicate i 0) (replicate (512 - i) 0) i (length-replicate i 0)
-
--- the copy is all of it where what is copied is all that there is, or 512 bytes
-all : (block : List ℕ) (i : ℕ) → i ≤ 512 → take i block ≡ take 512 block → 512 - i ≡ 512 - length block → take i block ++ drop i zeros ≡ keptOf block
-unfolding keptOf
-all block i h e r = ap₂ (λ (x y : List ℕ). x ++ y) e (zeros-left i h ∙ ap (λ (n : ℕ). replicate n 0) r)
-
-abbrev Inv-loop : tie.InvT-loop
-Inv-loop block bytes₀ i₀ bytes i = (i ≤ 512) × (i ≤ length block) × (bytes ≡ take i block ++ drop i zeros)
-
-abbrev μ-loop : tie.MeasureT-loop
-μ-loop block bytes₀ i₀ bytes i = 512 - i
-
-loop-holds : tie.Need-loop-holds Inv-loop μ-loop
-unfolding zeros
-loop-holds c = (omega arith, omega arith, refl)
-
-returns : tie.Need-returns Inv-loop μ-loop
-returns c =
-    let l = c .before .before in
-    let b = now (l .before .args .block) in
-    let i = l .loop .i in
-    l .loop .inv .2
-    ∙ all b i (omega arith) (take-all i b (c .if1 .taken) ∙ sym (take-all 512 b (omega arith))) (omega arith)
-
-loop-again : tie.Need-loop-again Inv-loop μ-loop
-loop-again c =
-    let l = c .before .before .before in
-    let b = now (l .before .args .block) in
-    let i = l .loop .i in
-    (search needs, search needs, ap (λ (x : List ℕ). set x i (getD b i 0)) (l .loop .inv .2) ∙ copy-turn b zeros i (search needs) (omega (arith, zeros-long)))
-
-returns-2 : tie.Need-returns-2 Inv-loop μ-loop
-returns-2 c =
-    let l = c .before in
-    let b = now (l .before .args .block) in
-    let i = l .loop .i in
-    let e : i ≡ 512 = omega arith in
-    l .loop .inv .2 ∙ all b i (omega arith) (ap (λ (k : ℕ). take k b) e) (omega arith)
 
 pub kept-spec : {M : Type 1} → statement M
 kept-spec =
     tie.close
     (tie.spec
-    Inv-loop
-    μ-loop
-    loop-holds
-    returns
     (λ c. search needs)
     (λ c. search needs)
+    (λ c κs. search needs)
     (λ c. search needs)
     (λ c. search needs)
-    loop-again
-    returns-2)
+    (λ c. simp (c .front .ensures, c .before .enum-told2 .given .1))
+    (λ c. search needs))
