@@ -2,7 +2,7 @@
 -- Assumes nothing.
 use mathlib.Core.Bool.{not}
 use mathlib.Core.List.{List, _++_}
-use Prim.Native.Nat.{ℕ, _+_, _-_, _*_, _/_}
+use Prim.Native.Nat.{ℕ, _+_, _-_, _*_, _/_, min}
 use lib.Dec.{eqb, ltb}
 use lib.ListN.{length, take, replicate}
 use Rattle.base.specs.Choice.{unless}
@@ -133,7 +133,12 @@ blockJudged card block memory map =
 unfoldable pub keptOf : List ℕ → List ℕ
 keptOf block = take 512 block ++ replicate (512 - length block) 0
 
--- what is kept until it is stored: these bytes where a sector is to be stored, and else zeros
+-- what is kept until it is stored: of these bytes, those of the block where a sector is to be stored, and else none
+abbrev pub keptLength : Storing → ℕ → ℕ
+keptLength Nothing n = 0
+keptLength (Sector sector) n = min n 512
+keptLength All n = 0
+
 abbrev pub keptFor : List ℕ → Storing → List ℕ
 keptFor block Nothing = replicate 512 0
 keptFor block (Sector sector) = keptOf block

@@ -18,7 +18,7 @@ use wire::Checked;
 ghost use mathlib.Core.Path.{_≡_};
 ghost use Prim.Native.Nat.{min};
 ghost use lib.ListN.{length};
-ghost use Rattle.card.specs.BlockIn.{awaitedLength, afterRefused, afterStored, withFault, blockRefused, blockGood, writeJudged, requestJudged, carriedOut, awaitedJudged, unread, stateJudged, blockJudged, keptOf, keptFor, storedBy, clearedBy};
+ghost use Rattle.card.specs.BlockIn.{awaitedLength, afterRefused, afterStored, withFault, blockRefused, blockGood, writeJudged, requestJudged, carriedOut, awaitedJudged, unread, stateJudged, blockJudged, keptOf, keptLength, keptFor, storedBy, clearedBy};
 
 // The bytes that are awaited.
 fn awaited_length(card: Card, incoming: Incoming) -> usize
@@ -230,29 +230,29 @@ fn sector_part(length: usize) -> usize
     512
 }
 
-// The first 512 bytes of a block.
-fn front(block: &[u8]) -> [u8; 512]
-    ensures { λ r. ⌜ r ≡ keptOf (now (block .entry)) ⌝ }
+// How many bytes of a block are kept until they are stored: none where no sector is to be stored.
+fn kept_length(storing: Storing, length: usize) -> usize
+    ensures { λ r. ⌜ r ≡ keptLength storing length ⌝ }
+{
+    match storing {
+        Storing::Nothing => 0,
+        Storing::Sector(_) => sector_part(length),
+        Storing::All => 0,
+    }
+}
+
+// The bytes that a write keeps until they are stored.
+fn kept(storing: Storing, block: &[u8]) -> [u8; 512]
+    ensures { λ r. ⌜ r ≡ keptFor (now (block .entry)) storing ⌝ }
 {
     let mut bytes = [0; 512];
-    let n = sector_part(block.len());
+    let n = kept_length(storing, block.len());
     let mut i: usize = 0;
     while i < n {
         bytes[i] = block[i];
         i += 1;
     }
     bytes
-}
-
-// What a write keeps until it is stored. Where no sector is to be stored nothing is copied.
-fn kept(storing: Storing, block: &[u8]) -> [u8; 512]
-    ensures { λ r. ⌜ r ≡ keptFor (now (block .entry)) storing ⌝ }
-{
-    match storing {
-        Storing::Nothing => [0; 512],
-        Storing::Sector(_) => front(block),
-        Storing::All => [0; 512],
-    }
 }
 
 // What was judged carried out on the memory and the map.
