@@ -72,7 +72,7 @@ BEGIN {
 }
 
 # The table: the states by name, the columns, the rows.
-/^const [A-Z]+: Move = Move::To/ { state = $0; gsub(/.*Column::|\).*/, "", state); state_of[substr($2, 1, 3)] = state }
+/^const [A-Z]+: Entry = Entry::/ { state = $0; gsub(/.*Entry::|;.*/, "", state); if (state in name_of) state_of[substr($2, 1, 3)] = state }
 /^ *\/\/ idl / { for (i = 2; i <= 11; i++) { key = toupper(substr($i, 1, 3)); column[i - 1] = state_of[key] } }
 /^ *\[.*\], *\/\/ / { row($0) }
 
