@@ -71,7 +71,7 @@ impl Bus {
 
 /// "Data commands go to the selected card's own call (H)": what the bus carries reads no memory
 /// and no map, so none is lent.
-fn hear(card: &mut Card, command: Command) -> Option<Vec<u8>> {
+pub fn hear(card: &mut Card, command: Command) -> Option<Vec<u8>> {
     card.hear(command, &mut [], &mut [])
 }
 

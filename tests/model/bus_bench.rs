@@ -33,7 +33,7 @@ pub fn run(script: &[u8], mut print: impl FnMut(&str)) {
 }
 
 /// The next record, or none at the end of the script.
-fn next(rest: &mut &[u8]) -> Option<Result<BusRecord, &'static str>> {
+pub fn next(rest: &mut &[u8]) -> Option<Result<BusRecord, &'static str>> {
     let (&kind, body) = rest.split_first()?;
     *rest = body;
     let record = match kind {

@@ -21,6 +21,8 @@ pub struct BusWalk {
     pub addresses: Vec<u16>,
     /// How many steps of a hundred add a card.
     pub adding: u64,
+    /// The commands that the cards have heard, by state: a bit for each index.
+    pub heard: [u64; 10],
 }
 
 impl BusWalk {
@@ -38,6 +40,9 @@ impl BusWalk {
     }
 
     fn command(&mut self, index: u8, argument: u32) {
+        for card in &self.bench.bus.cards {
+            self.heard[card.state.number() as usize] |= 1 << index;
+        }
         self.say(BusRecord::Frame(wire::command(index, argument)));
     }
 
@@ -54,7 +59,7 @@ impl BusWalk {
         }
         match self.dice.below(100) {
             0..=7 => self.damaged_frame(),
-            8..=11 => self.outside_the_bus(),
+            8..=11 => self.any_commands(),
             12 => self.command(0, 0),
             13 => {
                 let argument = self.dice.word();
@@ -174,15 +179,24 @@ impl BusWalk {
         self.say(BusRecord::Frame(frame));
     }
 
-    /// Whole frames of any index but those of the bus; then, often, what a card says of it.
-    fn outside_the_bus(&mut self) {
-        let near = self.dice.pick(&[5, 6, 8, 11, 12, 12, 14, 16, 42]);
-        let any = self.dice.below(64) as u8;
-        let index = if matches!(any, 0..=4 | 7 | 9 | 10 | 13 | 15) || self.dice.percent(40) { near } else { any };
-        let address = self.dice.pick(&self.addresses);
-        self.command_to(index, address);
+    /// Some whole frames, of any index that a card has not yet heard in its state: most are none of
+    /// the bus's. Then, often, what a card says of it.
+    fn any_commands(&mut self) {
+        for _ in 0..self.dice.below(8) {
+            let index = self.new_index();
+            let address = self.dice.pick(&self.addresses);
+            self.command_to(index, address);
+        }
         if self.dice.percent(50) {
+            let address = self.dice.pick(&self.addresses);
             self.command_to(13, address);
         }
+    }
+
+    /// An index that no card has heard in the state of some card, if there is one.
+    fn new_index(&mut self) -> u8 {
+        let any = self.dice.below(64);
+        let heard = if self.bench.bus.cards.is_empty() { 0 } else { self.heard[self.some_card().0.number() as usize] };
+        (any..any + 64).map(|index| index % 64).find(|index| heard >> index & 1 == 0).unwrap_or(any) as u8
     }
 }

@@ -114,10 +114,10 @@ impl Walk {
         self.say(Record::Frame(frame));
     }
 
-    /// Any index with an argument that some command finds likely.
+    /// An index that is new here, with an argument that some command finds likely.
     pub fn any_command(&mut self) {
         let addressed = self.dice.pick(&[7, 9, 10, 13, 15]);
-        let index = if self.dice.percent(15) { addressed } else { self.dice.below(64) as u8 };
+        let index = if self.dice.percent(15) { addressed } else { self.new_index() };
         let argument = match self.dice.below(4) {
             0 => self.own(),
             1 => self.other(),

@@ -1,23 +1,10 @@
 //! The examples that document 01 gives, and the edges it names.
-//! Build and run: rustc -O --test examples.rs && ./examples
+//! Build and run: rustc -O --edition 2021 --test main.rs -o examples && ./examples
 
-#![allow(dead_code)] // no binary uses all of the model
-
-mod bench;
-mod blocks;
-mod bus;
-mod bus_bench;
-mod card;
-mod erase;
-mod lock;
-mod moves;
-mod script;
-mod wire;
-
-use bus::Bus;
-use bus_bench::BusRecord;
-use card::*;
-use wire::register;
+use crate::bus::Bus;
+use crate::bus_bench::{self, BusRecord};
+use crate::card::*;
+use crate::wire::{self, register};
 
 const OCR: u32 = 0x00FF_8000;
 

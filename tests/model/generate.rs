@@ -1,41 +1,19 @@
-//! Writes a random script for `cardline`: `generate SEED RECORDS > script`.
-//! Build: rustc -O generate.rs
+//! A random script for `cardline`, from a seed.
 
-#![allow(dead_code)] // no binary uses all of the model
+use crate::bench::Bench;
+use crate::dice::Dice;
+use crate::script::{Making, Record};
+use crate::walk::Walk;
+use crate::wire;
 
-mod bench;
-mod blocks;
-mod card;
-mod data;
-mod dice;
-mod erase;
-mod lock;
-mod moves;
-mod script;
-mod walk;
-mod wire;
-
-use dice::Dice;
-use script::{Making, Record};
-use std::io::{self, Write};
-
-fn main() -> io::Result<()> {
-    let mut numbers = std::env::args().skip(1).map(|number| number.parse::<u64>().ok());
-    let (Some(Some(seed)), Some(Some(records)), None) = (numbers.next(), numbers.next(), numbers.next()) else {
-        eprintln!("use: generate SEED RECORDS");
-        std::process::exit(2);
-    };
-    io::stdout().write_all(&script(seed, records as usize))
-}
-
-fn script(seed: u64, records: usize) -> Vec<u8> {
+pub fn script(seed: u64, records: usize) -> Vec<u8> {
     let mut dice = Dice(seed);
     let making = making(&mut dice);
     let script = if dice.percent(1) { Record::ShowCard.written() } else { Record::Make(making.clone()).written() };
-    let Ok(bench) = bench::Bench::make(&making) else {
+    let Ok(bench) = Bench::make(&making) else {
         return cut_sometimes(&mut dice, script);
     };
-    let mut walk = walk::Walk { dice, bench, script, left: records };
+    let mut walk = Walk { dice, bench, script, left: records, given: [[0; 10]; 2] };
     while walk.left > 0 {
         walk.step();
     }

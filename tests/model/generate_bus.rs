@@ -1,32 +1,11 @@
-//! Writes a random script for `busline`: `generate_bus SEED RECORDS > script`.
-//! Build: rustc -O generate_bus.rs
+//! A random script for `busline`, from a seed.
 
-#![allow(dead_code)] // no binary uses all of the model
+use crate::bus_bench::{BusBench, BusRecord};
+use crate::bus_walk::BusWalk;
+use crate::dice::Dice;
+use crate::wire;
 
-mod bus;
-mod bus_bench;
-mod bus_walk;
-mod card;
-mod dice;
-mod erase;
-mod moves;
-mod wire;
-
-use bus_bench::{BusBench, BusRecord};
-use bus_walk::BusWalk;
-use dice::Dice;
-use std::io::{self, Write};
-
-fn main() -> io::Result<()> {
-    let mut numbers = std::env::args().skip(1).map(|number| number.parse::<u64>().ok());
-    let (Some(Some(seed)), Some(Some(records)), None) = (numbers.next(), numbers.next(), numbers.next()) else {
-        eprintln!("use: generate_bus SEED RECORDS");
-        std::process::exit(2);
-    };
-    io::stdout().write_all(&script(seed, records as usize))
-}
-
-fn script(seed: u64, records: usize) -> Vec<u8> {
+pub fn script(seed: u64, records: usize) -> Vec<u8> {
     let mut dice = Dice(seed);
     let identifiers = identifiers(&mut dice);
     let few = dice.pick(&[1, 2, 4, 8]);
@@ -35,7 +14,7 @@ fn script(seed: u64, records: usize) -> Vec<u8> {
     let at_first = dice.pick(&[0, 0, 1, 1, 2, 2, 3, 4, 6, 10, 29, 30, 31]);
     let adding = dice.pick(&[0, 1, 3, 8, 20]);
     let bench = BusBench::default();
-    let mut walk = BusWalk { dice, bench, script: Vec::new(), left: records, identifiers, addresses, adding };
+    let mut walk = BusWalk { dice, bench, script: Vec::new(), left: records, identifiers, addresses, adding, heard: [0; 10] };
     for _ in 0..at_first {
         walk.add();
     }

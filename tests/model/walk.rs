@@ -13,6 +13,8 @@ pub struct Walk {
     pub script: Vec<u8>,
     /// How many records may still be written.
     pub left: usize,
+    /// The commands that were given so far, unlocked and locked, by state: a bit for each index.
+    pub given: [[u64; 10]; 2],
 }
 
 impl Walk {
@@ -25,7 +27,21 @@ impl Walk {
     }
 
     pub fn command(&mut self, index: u8, argument: u32) {
+        *self.given_here() |= 1 << index;
         self.say(Record::Frame(wire::command(index, argument).to_vec()));
+    }
+
+    /// The commands that were given to the card in its state.
+    fn given_here(&mut self) -> &mut u64 {
+        let Card { locked, state, .. } = self.bench.card;
+        &mut self.given[locked as usize][state.number() as usize]
+    }
+
+    /// An index that was not yet given in the card's state, if there is one.
+    pub fn new_index(&mut self) -> u8 {
+        let any = self.dice.below(64);
+        let given = *self.given_here();
+        (any..any + 64).map(|index| index % 64).find(|index| given >> index & 1 == 0).unwrap_or(any) as u8
     }
 
     pub fn card(&self) -> &Card {
@@ -120,7 +136,7 @@ impl Walk {
             0 => self.damaged_frame(),
             1 => self.stray_block(),
             2 => self.lend_wrong(),
-            _ => self.any_command(),
+            _ => (0..5).for_each(|_| self.any_command()),
         }
     }
 

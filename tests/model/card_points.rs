@@ -1,8 +1,16 @@
-//! Everything that a card can reach in scripts, as points with names; `cover` counts them.
+//! Everything that a card can reach in scripts of `cardline`, as points with names.
 
+use crate::card::State;
 use std::collections::BTreeSet;
 
 pub const STATES: [&str; 10] = ["idle", "ready", "ident", "stby", "tran", "data", "rcv", "prg", "dis", "ina"];
+
+pub fn name(state: State) -> &'static str {
+    STATES[state.number() as usize]
+}
+
+/// The bits of a status word that are not state or bit 8.
+pub const BITS: [u32; 12] = [31, 30, 29, 28, 27, 26, 25, 24, 23, 22, 15, 13];
 
 /// The commands that only an unlocked card carries out.
 pub const LOCKABLE: [u8; 13] = [16, 17, 18, 24, 25, 28, 29, 30, 32, 33, 35, 36, 38];
@@ -29,7 +37,7 @@ const BITS_SET: [(u8, &[u32]); 15] = [
     (42, &[13]),
 ];
 
-/// The table of legal moves: command, state on reception, states after.
+/// The table of legal moves: command, states on reception, states after (none: the same).
 const MOVES: [(u8, &[usize], &[usize]); 25] = [
     (0, &[0, 1, 2, 3, 4, 5, 6, 7, 8], &[0]),
     (1, &[0], &[0, 1, 9]),
@@ -79,18 +87,26 @@ pub fn expected() -> BTreeSet<String> {
         points.extend(bits.iter().map(|bit| format!("set-by CMD{index} bit {bit}")));
     }
     points.extend(LOCKABLE.map(|index| format!("set-by CMD{index} bit 24")));
-    points.extend([31, 30, 29, 28, 27, 26, 25, 24, 23, 22, 15, 13].map(|bit| format!("r1 bit {bit}")));
+    points.extend(BITS.map(|bit| format!("r1 bit {bit}")));
     points.extend([2, 3, 4, 5, 6, 7, 8].map(|state| format!("r1 state {}", STATES[state])));
-    for (index, from, to) in MOVES {
-        for before in from {
-            let ends = if to.is_empty() { std::slice::from_ref(before) } else { to };
-            let from = STATES[*before];
-            points.extend(ends.iter().map(|after| format!("move CMD{index} {from} to {}", STATES[*after])));
-        }
-    }
+    points.extend(moves().iter().map(|(index, from, to)| format!("move CMD{index} {from} to {to}")));
+    // 13 and 14 are a bus's.
+    points.extend((1..=21).filter(|number| !matches!(number, 13 | 14)).map(|number| format!("number {number}")));
     points.extend(NAMED.trim().lines().map(|point| point.trim().to_string()));
     points.extend(lock_requests());
     points
+}
+
+/// The moves of the table one by one.
+pub fn moves() -> Vec<(u8, &'static str, &'static str)> {
+    let mut moves = Vec::new();
+    for (index, from, to) in MOVES {
+        for before in from {
+            let ends = if to.is_empty() { std::slice::from_ref(before) } else { to };
+            moves.extend(ends.iter().map(|&after| (index, STATES[*before], STATES[after])));
+        }
+    }
+    moves
 }
 
 fn lock_requests() -> Vec<String> {
@@ -144,6 +160,11 @@ const NAMED: &str = "
     answer write_frame
     answer write_block
     answer check_block
+    lent too little memory
+    lent too much memory
+    lent too short a map
+    lent too long a map
+    lent a map entry over 1
     stop at the end
     stop bad kind
     stop cut

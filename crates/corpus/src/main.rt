@@ -1,0 +1,36 @@
+// Corpus: random scripts for both programs, under a heading each. An argument that begins with `b`
+// names a script that is played as busline plays it, any other one that is played as cardline does.
+// The scripts and stdout are the model's: `tests/corpus` makes them again.
+use lines::parts::part;
+
+fn main() {
+    let n = os::arg_count();
+    let mut i: usize = 1;
+    while i < n {
+        script(i);
+        i += 1;
+    }
+}
+
+// The script that an argument names. `tape` reads 65,536 characters, so no script is longer.
+fn script(i: usize) {
+    let mut bytes = [0u8; 32768];
+    play(i, &mut bytes);
+}
+
+fn play(i: usize, bytes: &mut [u8]) {
+    let n = tape::named(i, bytes);
+    let script = part(bytes, 0, n);
+    if for_bus(i) {
+        busplayer::play(script);
+    } else {
+        player::play(script);
+    }
+}
+
+// Whether an argument names a script for a bus.
+fn for_bus(i: usize) -> bool {
+    let mut name = [0u8; 64];
+    os::arg(i, &mut name);
+    name[0] == b'b'
+}

@@ -1,0 +1,201 @@
+//! What a script of `cardline` reaches.
+
+use crate::bench::Bench;
+use crate::card::*;
+use crate::card_points::{name, ADDRESSED, BITS, LOCKABLE, STATES};
+use crate::cover::Cover;
+use crate::erase::{Tags, Unit};
+use crate::script::{Making, Record, Script};
+use crate::wire::{self, Refusal};
+
+/// What a state sends or awaits, as a call and what it is for.
+fn work(state: State) -> &'static str {
+    match state {
+        State::Data(Sending::One(_)) => "block_out one",
+        State::Data(Sending::Many(_)) => "block_out many",
+        State::Data(Sending::Protection(_)) => "block_out protection",
+        State::Rcv(Awaited::One(_)) => "block_in one",
+        State::Rcv(Awaited::Many(_)) => "block_in many",
+        State::Rcv(Awaited::Lock) => "block_in lock",
+        _ => "nothing",
+    }
+}
+
+/// The number after `refused` in a line, if it is a refusal.
+fn refusal(line: &str) -> Option<&str> {
+    line.split("refused ").nth(1).and_then(|rest| rest.split(' ').next())
+}
+
+/// A refusal of a call is one point, its answer another.
+fn told(call: &str, line: &str) -> String {
+    match refusal(line) {
+        Some(number) => format!("refusal {call} {number}"),
+        None => format!("answer {call}"),
+    }
+}
+
+impl Cover {
+    pub fn watch_card(&mut self, script: &[u8]) {
+        let mut script = Script(script);
+        let mut bench = None;
+        while let Some(next) = script.next(bench.is_none()) {
+            self.records += 1;
+            match (next, &mut bench) {
+                (Err(stop), _) => return self.met(format!("stop {stop}")),
+                (Ok(Record::Make(making)), _) => match Bench::make(&making) {
+                    Ok(made) => bench = Some(made),
+                    Err(number) => return self.watch_refused_make(number, &making),
+                },
+                (Ok(record), Some(bench)) => self.watch_record(&record, bench),
+                (Ok(_), None) => unreachable!("the first record is a make or stops the script"),
+            }
+        }
+        self.met("stop at the end".to_string());
+    }
+
+    fn watch_refused_make(&mut self, number: Refusal, making: &Making) {
+        self.met(format!("number {number}"));
+        let is_cid_right = making.cid[15] == wire::last_byte(&making.cid[..15]);
+        let register = if is_cid_right { " CSD" } else { " CID" };
+        self.met(format!("refusal make {number}{}", if number == 9 { register } else { "" }));
+    }
+
+    fn watch_record(&mut self, record: &Record, bench: &mut Bench) {
+        let before = bench.card.clone();
+        let map = bench.map.clone();
+        let line = bench.line(record);
+        let state = name(before.state);
+        if let Some(number) = refusal(&line) {
+            self.met(format!("number {number}"));
+            self.watch_lent(number, bench);
+        }
+        match record {
+            Record::Frame(frame) => match refusal(&line) {
+                Some(number) => self.met(format!("refusal frame {number} in {state}")),
+                None => self.watch_frame(frame, &line, &before, &bench.card, &map),
+            },
+            Record::BlockIn(block) => self.watch_block_in(block, &line, &before),
+            Record::BlockOut(_) => self.watch_block("block_out", &line, &before),
+            Record::WorkDone => self.met(format!("call work-done in {state}")),
+            Record::PowerOn => {
+                self.met(format!("call power-on in {state}"));
+                self.met_if(!before.locked && bench.card.locked, "flag power-on locks");
+            }
+            Record::WriteFrame(..) => self.met(told("write_frame", &line)),
+            Record::WriteBlock(..) => self.met(told("write_block", &line)),
+            Record::CheckBlock(..) => self.met(told("check_block", &line)),
+            _ => (),
+        }
+    }
+
+    /// Why a call was refused 12.
+    fn watch_lent(&mut self, number: &str, bench: &Bench) {
+        let (memory, map) = bench.lent;
+        let is_12 = number == "12";
+        self.met_if(is_12 && memory < bench.memory.len(), "lent too little memory");
+        self.met_if(is_12 && memory > bench.memory.len(), "lent too much memory");
+        self.met_if(is_12 && map < bench.map.len(), "lent too short a map");
+        self.met_if(is_12 && map > bench.map.len(), "lent too long a map");
+        self.met_if(is_12 && bench.map.iter().any(|&entry| entry > 1), "lent a map entry over 1");
+    }
+
+    /// 12 and 15 are told by the state, the others by what is sent or awaited.
+    fn watch_block(&mut self, call: &str, line: &str, before: &Card) {
+        match refusal(line) {
+            Some(number @ ("12" | "15")) => self.met(format!("refusal {call} {number} in {}", name(before.state))),
+            _ => self.met(told(work(before.state), line)),
+        }
+    }
+
+    fn watch_frame(&mut self, frame: &[u8], line: &str, before: &Card, after: &Card, map: &[u8]) {
+        let index = frame[0] & 0x3F;
+        let (from, to) = (name(before.state), name(after.state));
+        self.met(format!("pair {from} CMD{index}"));
+        self.met_if(before.locked, &format!("locked {from} CMD{index}"));
+        let is_own = frame[1..3] == before.address.to_be_bytes();
+        let whose = if is_own { "own" } else { "other" };
+        self.met_if(ADDRESSED.contains(&index), &format!("addressed {from} CMD{index} {whose}"));
+        if index == 0 && before.state != State::Ina {
+            self.met_if(after.locked, "flag CMD0 keeps locked");
+            self.met_if(!after.locked && !after.password.is_empty(), "flag CMD0 keeps unlocked with a password");
+        }
+        self.met(format!("move CMD{index} {from} to {to}"));
+        let left = after.errors & !before.errors;
+        self.met_if(left & ERASE_RESET != 0, &format!("flag bit 13 left by CMD{index}"));
+        if index == 12 {
+            self.met(format!("stopped {}", work(before.state)));
+        }
+        // Of the answers that are as long as an R1, only R3 begins with 3F.
+        if let Some(answer) = line.split("line ").nth(1) {
+            if answer.len() == 12 && !answer.starts_with("3F") {
+                let status = u32::from_str_radix(&answer[2..10], 16).expect("an R1 in HEX");
+                self.watch_status(index, status, before);
+            }
+        }
+        if let (38, "prg", Some(Tags { unit, start, end: Some(end) })) = (index, to, before.tags) {
+            let (unit, bytes) = if unit == Unit::Sector { ("sector", SECTOR) } else { ("group", ERASE_GROUP) };
+            let mut sectors = (start * bytes..(end + 1) * bytes).step_by(SECTOR as usize);
+            let filled = sectors.any(|address| !before.is_protected(address, map));
+            let spared = after.errors & WP_ERASE_SKIP != 0;
+            let how = if !spared { "all filled" } else if filled { "some spared" } else { "all spared" };
+            self.met(format!("erase by {unit}, {how}"));
+        }
+    }
+
+    fn watch_status(&mut self, index: u8, status: u32, before: &Card) {
+        self.watch_shown(status);
+        for bit in BITS.into_iter().filter(|&bit| bit != 25 && (status & !before.errors) >> bit & 1 == 1) {
+            self.met(format!("set-by CMD{index} bit {bit}"));
+        }
+        let stopped_by_lock = before.locked && LOCKABLE.contains(&index);
+        assert!(!stopped_by_lock || status & LOCK_UNLOCK_FAILED != 0, "a locked card went on");
+    }
+
+    /// The state and the bits of a status word that was sent.
+    pub fn watch_shown(&mut self, status: u32) {
+        self.met(format!("r1 state {}", STATES[(status >> 9 & 0xF) as usize]));
+        for bit in BITS.into_iter().filter(|bit| status >> bit & 1 == 1) {
+            self.met(format!("r1 bit {bit}"));
+        }
+    }
+
+    fn watch_block_in(&mut self, block: &[u8], line: &str, before: &Card) {
+        self.watch_block("block_in", line, before);
+        let end = refusal(line).map_or("taken".to_string(), |number| format!("refused {number}"));
+        if before.state != State::Rcv(Awaited::Lock) || !matches!(&end[..], "taken" | "refused 20") {
+            return;
+        }
+        let is_listed = matches!(block[0], 0 | 1 | 2 | 4 | 5 | 8);
+        let request = if is_listed { block[0].to_string() } else { "other".to_string() };
+        let locked = if before.locked { "locked" } else { "unlocked" };
+        self.met(format!("lock {request} {locked} {end}"));
+        self.watch_password(&block[..block.len() - 2], end == "taken", before);
+    }
+
+    /// The ways in which a lock request's password is nearly right.
+    fn watch_password(&mut self, payload: &[u8], taken: bool, before: &Card) {
+        if payload[0] == 8 {
+            let past_the_block = payload.get(1).is_none_or(|&length| length as usize + 2 > payload.len());
+            self.met_if(taken && past_the_block, "password forced erase with byte 1 past the block");
+            return self.met_if(before.locked && !taken, "password forced erase refused by CSD");
+        }
+        let Some(&length) = payload.get(1) else {
+            return self.met_if(!taken, "password block without byte 1 refused");
+        };
+        let Some(sent) = payload[2..].get(..length as usize) else {
+            return self.met_if(!taken, "password block shorter than its length refused");
+        };
+        let stored = &before.password[..];
+        if matches!(payload[0], 1 | 5) {
+            let new = sent.len() as i64 - stored.len() as i64;
+            self.met_if(taken && new == 16, "password set of 16 bytes");
+            return self.met_if(!taken && new == 17 && !before.locked, "password set of 17 bytes refused");
+        }
+        let refused = !taken && before.locked == (payload[0] == 0) && !stored.is_empty();
+        let prefix = sent.len() < stored.len() && stored.starts_with(sent);
+        let one_more = stored.len() + 1 == sent.len() && sent.starts_with(stored);
+        self.met_if(refused && prefix, "password prefix refused");
+        self.met_if(refused && one_more, "password one byte more refused");
+        self.met_if(refused && sent.len() == stored.len(), "password of the same length refused");
+    }
+}

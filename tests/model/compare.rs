@@ -1,0 +1,150 @@
+//! Our programs beside the model: both play a script, and every line is compared.
+
+use crate::bus_bench::BusRecord;
+use crate::program::{Program, LONGEST};
+use crate::script::{Making, Record};
+use crate::{hex, wire, Outcome};
+use std::fs;
+use std::io::Read;
+use std::path::{Path, PathBuf};
+use std::process::{Command, Stdio};
+use std::sync::mpsc;
+use std::thread;
+use std::time::{Duration, Instant};
+
+/// A program that takes longer for a script hangs.
+const LIMIT: Duration = Duration::from_secs(60);
+
+/// How often progress is told.
+const PAUSE: Duration = Duration::from_secs(5);
+
+/// The script that is being played; it stays there if the programs differ.
+const SCRIPT: &str = "target/model/script";
+
+/// The stored scripts, which stand for themselves in the gate, and examples/, whose scripts are for
+/// one of the programs but may be given to both: any bytes are a script.
+pub fn stored(program: Program) -> Result<Vec<(String, Vec<u8>)>, String> {
+    let own = if program == Program::Cardline { "crates/scripts/data" } else { "crates/nights/data" };
+    let mut files = Vec::new();
+    for folder in [own, "examples"] {
+        let entries = fs::read_dir(folder).map_err(|error| format!("{folder}: {error}"))?;
+        files.extend(entries.filter_map(|entry| Some(entry.ok()?.path())));
+    }
+    files.retain(|file: &PathBuf| file.extension().is_some_and(|ending| ending == "hex"));
+    files.sort();
+    files.iter().map(|file| Ok((file.display().to_string(), hex::script_of(file)?))).collect()
+}
+
+/// The stored scripts, the longest that is played, one that is too long, and random ones.
+pub fn run(count: u64, records: usize, first: u64, launcher: &[&str]) -> Outcome {
+    for program in [Program::Cardline, Program::Busline] {
+        let mut comparison = Comparison::new(program, launcher);
+        for (name, script) in stored(program)? {
+            comparison.play(&name, &script)?;
+        }
+        let longest = longest(program);
+        comparison.play("the longest script", &longest)?;
+        comparison.play("a script that is too long", &[&longest[..], &[0]].concat())?;
+        for seed in first..first + count {
+            comparison.play(&format!("seed {seed}"), &program.generate(seed, records))?;
+        }
+        comparison.tell("compared");
+    }
+    Ok(())
+}
+
+/// A script of as many bytes as a program plays: the longest blocks for a card that is then shown
+/// again and again, or identifiers for a bus that is soon full.
+fn longest(program: Program) -> Vec<u8> {
+    let register = wire::register(&[0; 15]);
+    let (memory_length, map, password) = (8_192, vec![0], Vec::new());
+    let making = Making { memory_length, filled_with: 0, map, cid: register, csd: register, ocr: 1, password };
+    let (mut script, record, rest) = match program {
+        Program::Cardline => (Record::Make(making).written(), Record::CheckBlock(vec![0; 4_096]).written(), 0x07),
+        Program::Busline => (Vec::new(), BusRecord::Add([0x5A; 15]).written(), 0x02),
+    };
+    while script.len() + record.len() <= LONGEST {
+        script.extend(&record);
+    }
+    script.resize(LONGEST, rest);
+    script
+}
+
+pub struct Comparison<'a> {
+    program: Program,
+    launcher: &'a [&'a str],
+    began: Instant,
+    told: Instant,
+    scripts: usize,
+    lines: usize,
+}
+
+impl<'a> Comparison<'a> {
+    pub fn new(program: Program, launcher: &'a [&'a str]) -> Comparison<'a> {
+        let now = Instant::now();
+        Comparison { program, launcher, began: now, told: now, scripts: 0, lines: 0 }
+    }
+
+    /// One script, which has a name to be told by.
+    pub fn play(&mut self, name: &str, script: &[u8]) -> Outcome {
+        let told = |what: String| format!("{}, {name}: {what}; the script is {SCRIPT}", self.program.name());
+        let expected = self.program.lines(script);
+        let ours = self.ours(script).map_err(told)?;
+        if let Some(difference) = difference(&expected, &ours) {
+            return Err(told(difference));
+        }
+        self.scripts += 1;
+        self.lines += expected.lines().count();
+        if self.told.elapsed() > PAUSE {
+            self.told = Instant::now();
+            self.tell(&format!("up to {name}"));
+        }
+        Ok(())
+    }
+
+    /// What our program writes for a script.
+    fn ours(&self, script: &[u8]) -> Result<String, String> {
+        let told = |error: std::io::Error| error.to_string();
+        fs::write(SCRIPT, script).map_err(told)?;
+        let program = Path::new("target/bin").join(self.program.name());
+        let (first, rest) = self.launcher.split_first().ok_or("no launcher is named")?;
+        let mut child = Command::new(first)
+            .args(rest)
+            .arg(program)
+            .stdin(fs::File::open(SCRIPT).map_err(told)?)
+            .stdout(Stdio::piped())
+            .spawn()
+            .map_err(told)?;
+        let mut output = child.stdout.take().ok_or("no output")?;
+        let (sender, receiver) = mpsc::channel();
+        thread::spawn(move || {
+            let mut bytes = Vec::new();
+            let _ = sender.send(output.read_to_end(&mut bytes).map(|_| bytes));
+        });
+        let Ok(read) = receiver.recv_timeout(LIMIT) else {
+            child.kill().map_err(told)?;
+            return Err(format!("our program did not end in {} seconds", LIMIT.as_secs()));
+        };
+        let status = child.wait().map_err(told)?;
+        if !status.success() {
+            return Err(format!("our program ended with an error ({status})"));
+        }
+        String::from_utf8(read.map_err(told)?).map_err(|error| error.to_string())
+    }
+
+    /// How far it has come: every record that is played writes one line.
+    pub fn tell(&self, what: &str) {
+        let (name, seconds) = (self.program.name(), self.began.elapsed().as_secs_f64());
+        println!("{name}, {what}: {} scripts, {} lines agree, {seconds:.1} s", self.scripts, self.lines);
+    }
+}
+
+/// The first line in which two transcripts differ.
+fn difference(expected: &str, ours: &str) -> Option<String> {
+    if expected == ours {
+        return None;
+    }
+    let lines = || expected.split('\n').map(Some).chain([None]).zip(ours.split('\n').map(Some).chain([None]));
+    let (number, (model, our)) = (1..).zip(lines()).find(|(_, (model, our))| model != our)?;
+    Some(format!("line {number} differs: the model has {model:?}, ours {our:?}"))
+}
