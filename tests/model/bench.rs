@@ -1,5 +1,5 @@
 //! The bench: one card with its caller's memory and map, and the line each record prints.
-//! Quoted sentences are from the description of `cardline`.
+//! Quoted sentences are from CARDLINE.md.
 
 use crate::card::Card;
 use crate::script::*;
@@ -25,16 +25,15 @@ pub fn run(script: &[u8], mut print: impl FnMut(&str)) {
         match (next, &mut bench) {
             (Err(stop), _) => return print(stop),
             (Ok(Record::Make(making)), _) => match Bench::make(&making) {
-                Ok(made) => bench = Some(made),
+                Ok(made) => {
+                    bench = Some(made);
+                    print("made");
+                }
                 Err(refusal) => return print(&format!("refused {refusal}")),
             },
-            (Ok(record), Some(bench)) => {
-                print(&bench.line(&record));
-                continue;
-            }
+            (Ok(record), Some(bench)) => print(&bench.line(&record)),
             (Ok(_), None) => unreachable!("the first record is a make or stops the script"),
         }
-        print("made");
     }
 }
 

@@ -208,7 +208,7 @@ impl Card {
     }
 
     /// Own: "argument bits 31..16" are the card's address.
-    fn is_own(&self, command: Command) -> bool {
+    pub fn is_own(&self, command: Command) -> bool {
         command.argument >> 16 == self.address as u32
     }
 

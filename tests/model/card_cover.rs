@@ -125,6 +125,11 @@ impl Cover {
         if index == 12 {
             self.met(format!("stopped {}", work(before.state)));
         }
+        if before.state == State::Tran && !before.locked {
+            let address = u32::from_be_bytes([frame[1], frame[2], frame[3], frame[4]]) as u64;
+            self.watch_border(index, address, before);
+            self.watch_tags(index, address, before);
+        }
         // Of the answers that are as long as an R1, only R3 begins with 3F.
         if let Some(answer) = line.split("line ").nth(1) {
             if answer.len() == 12 && !answer.starts_with("3F") {
@@ -139,6 +144,51 @@ impl Cover {
             let spared = after.errors & WP_ERASE_SKIP != 0;
             let how = if !spared { "all filled" } else if filled { "some spared" } else { "all spared" };
             self.met(format!("erase by {unit}, {how}"));
+        }
+    }
+
+    /// Addresses at the borders of memory and of its parts.
+    fn watch_border(&mut self, index: u8, from: u64, before: &Card) {
+        let (size, end) = (before.size, from + before.block_length);
+        let begins_inside = from < size;
+        match index {
+            17 | 18 => {
+                self.met_if(end == size, "border read ends with the memory");
+                self.met_if(begins_inside && end == size + 1, "border read goes one byte past the end");
+                self.met_if(from == size, "border read begins at the end");
+                self.met_if(end < size && end % READ_BLOCK == 0, "border read ends at a multiple of 2,048");
+                self.met_if(end < size && end % READ_BLOCK == 1, "border read goes one byte past a multiple of 2,048");
+            }
+            24 | 25 if before.block_length == SECTOR => {
+                self.met_if(end == size, "border write of the last sector");
+                self.met_if(begins_inside && end > size, "border write begins in memory and ends past it");
+                self.met_if(from == size, "border write begins at the end");
+            }
+            28..=30 | 32 | 33 | 35 | 36 => {
+                self.met_if(from + 1 == size, &format!("border last address CMD{index}"));
+                self.met_if(from == size, &format!("border first address past the end CMD{index}"));
+            }
+            _ => (),
+        }
+    }
+
+    /// What a tag command and CMD38 meet: no tags, a start or a range, of their kind or of the other.
+    fn watch_tags(&mut self, index: u8, address: u64, before: &Card) {
+        if !matches!(index, 32 | 33 | 35 | 36 | 38) {
+            return;
+        }
+        let by_sector = index <= 33;
+        let met = match before.tags {
+            None => "no tags",
+            Some(Tags { unit, .. }) if index != 38 && by_sector != (unit == Unit::Sector) => "tags of the other kind",
+            Some(Tags { end: None, .. }) => "a start",
+            Some(_) => "a range",
+        };
+        self.met(format!("tags CMD{index} meets {met}"));
+        if let (33, Some(Tags { unit: Unit::Sector, start, .. })) = (index, before.tags) {
+            let (sector, in_group) = (address / SECTOR, address / ERASE_GROUP == start * SECTOR / ERASE_GROUP);
+            self.met_if(sector < start && in_group, "tags CMD33 before its start");
+            self.met_if(sector > start && !in_group && address < before.size, "tags CMD33 in another erase group");
         }
     }
 

@@ -92,6 +92,14 @@ pub fn expected() -> BTreeSet<String> {
     points.extend(moves().iter().map(|(index, from, to)| format!("move CMD{index} {from} to {to}")));
     // 13 and 14 are a bus's.
     points.extend((1..=21).filter(|number| !matches!(number, 13 | 14)).map(|number| format!("number {number}")));
+    for index in [32, 33, 35, 36, 38] {
+        points.extend(["no tags", "a start", "a range"].map(|tags| format!("tags CMD{index} meets {tags}")));
+        points.extend((index != 38).then(|| format!("tags CMD{index} meets tags of the other kind")));
+    }
+    for index in [28, 29, 30, 32, 33, 35, 36] {
+        points.insert(format!("border last address CMD{index}"));
+        points.insert(format!("border first address past the end CMD{index}"));
+    }
     points.extend(NAMED.trim().lines().map(|point| point.trim().to_string()));
     points.extend(lock_requests());
     points
@@ -165,6 +173,16 @@ const NAMED: &str = "
     lent too short a map
     lent too long a map
     lent a map entry over 1
+    tags CMD33 before its start
+    tags CMD33 in another erase group
+    border read ends with the memory
+    border read goes one byte past the end
+    border read begins at the end
+    border read ends at a multiple of 2,048
+    border read goes one byte past a multiple of 2,048
+    border write of the last sector
+    border write begins in memory and ends past it
+    border write begins at the end
     stop at the end
     stop bad kind
     stop cut

@@ -21,8 +21,8 @@ const PAUSE: Duration = Duration::from_secs(5);
 /// The script that is being played; it stays there if the programs differ.
 const SCRIPT: &str = "target/model/script";
 
-/// The stored scripts, which stand for themselves in the gate, and examples/, whose scripts are for
-/// one of the programs but may be given to both: any bytes are a script.
+/// The scripts of the program's folder in crates/, and those of examples/. The latter are each meant
+/// for one of the programs, but any bytes are a script, so they are given to both.
 pub fn stored(program: Program) -> Result<Vec<(String, Vec<u8>)>, String> {
     let own = if program == Program::Cardline { "crates/scripts/data" } else { "crates/nights/data" };
     let mut files = Vec::new();
@@ -144,7 +144,7 @@ fn difference(expected: &str, ours: &str) -> Option<String> {
     if expected == ours {
         return None;
     }
-    let lines = || expected.split('\n').map(Some).chain([None]).zip(ours.split('\n').map(Some).chain([None]));
-    let (number, (model, our)) = (1..).zip(lines()).find(|(_, (model, our))| model != our)?;
-    Some(format!("line {number} differs: the model has {model:?}, ours {our:?}"))
+    let shared = expected.split('\n').zip(ours.split('\n')).take_while(|(model, our)| model == our).count();
+    let line = |transcript: &str| transcript.split('\n').nth(shared).unwrap_or("no such line").to_string();
+    Some(format!("line {} differs: the model has `{}`, ours `{}`", shared + 1, line(expected), line(ours)))
 }

@@ -14,7 +14,8 @@ pub fn script(seed: u64, records: usize) -> Vec<u8> {
     let at_first = dice.pick(&[0, 0, 1, 1, 2, 2, 3, 4, 6, 10, 29, 30, 31]);
     let adding = dice.pick(&[0, 1, 3, 8, 20]);
     let bench = BusBench::default();
-    let mut walk = BusWalk { dice, bench, script: Vec::new(), left: records, identifiers, addresses, adding, heard: [0; 10] };
+    let (script, left, heard) = (Vec::new(), records, [0; 10]);
+    let mut walk = BusWalk { dice, bench, script, left, identifiers, addresses, adding, heard };
     for _ in 0..at_first {
         walk.add();
     }

@@ -18,7 +18,7 @@ impl Card {
                 self.state = State::Ident;
                 Answer::Register(self.cid)
             }
-            7 if command.argument >> 16 != self.address as u32 => self.deselect(),
+            7 if !self.is_own(command) => self.deselect(),
             // "9, 10 | stby stays | R2 CSD, CID"
             9 => Answer::Register(self.csd),
             10 => Answer::Register(self.cid),

@@ -1,5 +1,5 @@
 //! A script of `cardline`: one byte of kind, then a body, all numbers high byte first.
-//! Quoted sentences are from the description of `cardline`.
+//! Quoted sentences are from CARDLINE.md.
 
 #[derive(Clone)]
 pub enum Record {

@@ -204,7 +204,8 @@ impl Walk {
             2 => self.border().wrapping_sub(length),
             _ => self.border(),
         };
-        self.command(index, address);
+        let one_more = self.dice.percent(15) as u32;
+        self.command(index, address.wrapping_add(one_more));
     }
 
     fn write(&mut self) {
