@@ -34,8 +34,20 @@ fn told(call: &str, line: &str) -> String {
     }
 }
 
+/// What an erase filled and spared of its range.
+fn erased(tags: Tags, before: &Card, after: &Card, map: &[u8]) -> String {
+    let (unit, bytes) = if tags.unit == Unit::Sector { ("sector", SECTOR) } else { ("group", ERASE_GROUP) };
+    let end = tags.end.expect("CMD38 needs both");
+    let mut sectors = (tags.start * bytes..(end + 1) * bytes).step_by(SECTOR as usize);
+    let filled = sectors.any(|address| !before.is_protected(address, map));
+    let spared = after.errors & WP_ERASE_SKIP != 0;
+    let how = if !spared { "all filled" } else if filled { "some spared" } else { "all spared" };
+    format!("erase by {unit}, {how}")
+}
+
 impl Cover {
     pub fn watch_card(&mut self, script: &[u8]) {
+        self.failed = None;
         let mut script = Script(script);
         let mut bench = None;
         while let Some(next) = script.next(bench.is_none()) {
@@ -109,6 +121,7 @@ impl Cover {
 
     fn watch_frame(&mut self, frame: &[u8], line: &str, before: &Card, after: &Card, map: &[u8]) {
         let index = frame[0] & 0x3F;
+        let failed = self.failed.take();
         let (from, to) = (name(before.state), name(after.state));
         self.met(format!("pair {from} CMD{index}"));
         self.met_if(before.locked, &format!("locked {from} CMD{index}"));
@@ -135,15 +148,11 @@ impl Cover {
             if answer.len() == 12 && !answer.starts_with("3F") {
                 let status = u32::from_str_radix(&answer[2..10], 16).expect("an R1 in HEX");
                 self.watch_status(index, status, before);
+                self.watch_failed(index, status, before, failed);
             }
         }
-        if let (38, "prg", Some(Tags { unit, start, end: Some(end) })) = (index, to, before.tags) {
-            let (unit, bytes) = if unit == Unit::Sector { ("sector", SECTOR) } else { ("group", ERASE_GROUP) };
-            let mut sectors = (start * bytes..(end + 1) * bytes).step_by(SECTOR as usize);
-            let filled = sectors.any(|address| !before.is_protected(address, map));
-            let spared = after.errors & WP_ERASE_SKIP != 0;
-            let how = if !spared { "all filled" } else if filled { "some spared" } else { "all spared" };
-            self.met(format!("erase by {unit}, {how}"));
+        if let (38, "prg", Some(tags)) = (index, to, before.tags) {
+            self.met(erased(tags, before, after, map));
         }
     }
 
@@ -189,6 +198,19 @@ impl Cover {
             let (sector, in_group) = (address / SECTOR, address / ERASE_GROUP == start * SECTOR / ERASE_GROUP);
             self.met_if(sector < start && in_group, "tags CMD33 before its start");
             self.met_if(sector > start && !in_group && address < before.size, "tags CMD33 in another erase group");
+        }
+    }
+
+    /// A tag command that failed where a range stood, and then at once CMD38, which tells whether the
+    /// range was dropped.
+    fn watch_failed(&mut self, index: u8, status: u32, before: &Card, failed: Option<String>) {
+        if let (38, Some(failed)) = (index, failed) {
+            self.met(format!("dropped {failed}"));
+        }
+        let error = status & !before.errors & (OUT_OF_RANGE | ERASE_SEQ_ERROR | ERASE_PARAM);
+        let had_a_range = matches!(before.tags, Some(Tags { end: Some(_), .. }));
+        if had_a_range && index != 38 && error != 0 {
+            self.failed = Some(format!("by CMD{index} bit {}", error.ilog2()));
         }
     }
 

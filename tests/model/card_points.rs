@@ -173,6 +173,14 @@ const NAMED: &str = "
     lent too short a map
     lent too long a map
     lent a map entry over 1
+    dropped by CMD32 bit 31
+    dropped by CMD33 bit 31
+    dropped by CMD33 bit 28
+    dropped by CMD33 bit 27
+    dropped by CMD35 bit 31
+    dropped by CMD36 bit 31
+    dropped by CMD36 bit 28
+    dropped by CMD36 bit 27
     tags CMD33 before its start
     tags CMD33 in another erase group
     border read ends with the memory

@@ -10,6 +10,8 @@ pub struct Cover {
     pub points: BTreeMap<String, Met>,
     /// How many records were watched.
     pub records: usize,
+    /// The last command, if it was a tag command that failed where a range stood.
+    pub failed: Option<String>,
 }
 
 /// How often a point was met, and at which record first.

@@ -229,7 +229,7 @@ impl Walk {
         self.command(index, address);
     }
 
-    /// A start, an end and the erase, each of which may be missing, doubled or of the wrong kind.
+    /// A start, an end, now and then one more of either, and the erase; each may be missing or wrong.
     fn erase(&mut self) {
         let size = self.card().size as u32;
         let by_sector = self.dice.percent(50);
@@ -239,7 +239,8 @@ impl Walk {
         let end = if self.dice.percent(85) { near } else { self.address() };
         let (first, second) = if by_sector { (32, 33) } else { (35, 36) };
         let second = if self.dice.percent(6) { 69 - second } else { second };
-        for (index, argument, chance) in [(first, start, 95), (second, end, 93), (38, 0, 90)] {
+        let (again, elsewhere) = (self.dice.pick(&[32, 33, 35, 36]), self.address());
+        for (index, argument, chance) in [(first, start, 95), (second, end, 93), (again, elsewhere, 25), (38, 0, 90)] {
             if self.dice.percent(chance) {
                 self.command(index, argument);
             }
