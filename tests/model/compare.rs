@@ -76,13 +76,14 @@ pub struct Comparison<'a> {
     began: Instant,
     told: Instant,
     scripts: usize,
+    records: usize,
     lines: usize,
 }
 
 impl<'a> Comparison<'a> {
     pub fn new(program: Program, launcher: &'a [&'a str]) -> Comparison<'a> {
         let now = Instant::now();
-        Comparison { program, launcher, began: now, told: now, scripts: 0, lines: 0 }
+        Comparison { program, launcher, began: now, told: now, scripts: 0, records: 0, lines: 0 }
     }
 
     /// One script, which has a name to be told by.
@@ -94,6 +95,7 @@ impl<'a> Comparison<'a> {
             return Err(told(difference));
         }
         self.scripts += 1;
+        self.records += self.program.places(script).len();
         self.lines += expected.lines().count();
         if self.told.elapsed() > PAUSE {
             self.told = Instant::now();
@@ -132,10 +134,12 @@ impl<'a> Comparison<'a> {
         String::from_utf8(read.map_err(told)?).map_err(|error| error.to_string())
     }
 
-    /// How far it has come: every record that is played writes one line.
+    /// How far it has come. A record that is played writes one line; those behind a refused make, and
+    /// those of a script that is too long, write none.
     pub fn tell(&self, what: &str) {
-        let (name, seconds) = (self.program.name(), self.began.elapsed().as_secs_f64());
-        println!("{name}, {what}: {} scripts, {} lines agree, {seconds:.1} s", self.scripts, self.lines);
+        let Comparison { program, scripts, records, lines, .. } = self;
+        let seconds = self.began.elapsed().as_secs_f64();
+        println!("{}, {what}: {scripts} scripts, {records} records, {lines} lines agree, {seconds:.1} s", program.name());
     }
 }
 
