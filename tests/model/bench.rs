@@ -1,5 +1,5 @@
 //! The bench: one card with its caller's memory and map, and the line each record prints.
-//! Quoted sentences are from CARDLINE.md.
+//! Quoted sentences are from docs/CARDLINE.md.
 
 use crate::card::Card;
 use crate::script::*;

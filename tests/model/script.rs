@@ -1,5 +1,5 @@
 //! A script of `cardline`: one byte of kind, then a body, all numbers high byte first.
-//! Quoted sentences are from CARDLINE.md.
+//! Quoted sentences are from docs/CARDLINE.md.
 
 #[derive(Clone)]
 pub enum Record {
