@@ -21,12 +21,12 @@ const PAUSE: Duration = Duration::from_secs(5);
 /// The script that is being played; it stays there if the programs differ.
 const SCRIPT: &str = "target/model/script";
 
-/// The scripts of the program's folder in crates/, and those of examples/. The latter are each meant
-/// for one of the programs, but any bytes are a script, so they are given to both.
+/// The scripts of the corpus for the program, and those of examples/. The latter are each meant for
+/// one of the programs, but any bytes are a script, so they are given to both.
 pub fn stored(program: Program) -> Result<Vec<(String, Vec<u8>)>, String> {
-    let own = if program == Program::Cardline { "crates/scripts/data" } else { "crates/nights/data" };
+    let own = format!("crates/corpus/data/{}", program.folder());
     let mut files = Vec::new();
-    for folder in [own, "examples"] {
+    for folder in [&own[..], "examples"] {
         let entries = fs::read_dir(folder).map_err(|error| format!("{folder}: {error}"))?;
         files.extend(entries.filter_map(|entry| Some(entry.ok()?.path())));
     }

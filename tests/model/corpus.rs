@@ -1,5 +1,5 @@
-//! The corpus: a fixed set of random scripts, and what the model prints for each. The gate plays them
-//! by the program crates/corpus.
+//! The corpus: scripts written by hand, a fixed set of random ones, and what the model prints for
+//! each. The gate plays them by the program crates/corpus.
 
 use crate::cover::{Cover, Met};
 use crate::program::Program;
@@ -21,41 +21,63 @@ const COST: usize = 8_000;
 /// The program crates/corpus reads no more of a script's text.
 const LONGEST_TEXT: usize = 65_536;
 
-struct Chosen {
+/// How the name of a random script begins.
+const RANDOM: &str = "random_";
+
+/// A script's name, its text and its bytes.
+struct Stored {
     name: String,
+    text: String,
     script: Vec<u8>,
 }
 
-/// Makes the files of the crate anew, and tells what they reach.
-pub fn make(folder: &Path) -> Outcome {
+/// Makes the files of the crate anew in a folder, those by hand as the crate has them, and tells what
+/// the random ones reach.
+pub fn make(own: &Path, folder: &Path) -> Outcome {
     let told = |error: std::io::Error| format!("{}: {error}", folder.display());
-    fs::create_dir_all(folder.join("data")).map_err(told)?;
     let (mut args, mut stdout) = (String::new(), String::new());
     let mut missing = 0;
-    for (program, kind) in [(Program::Cardline, "card"), (Program::Busline, "bus")] {
+    for program in [Program::Cardline, Program::Busline] {
+        let data = Path::new("data").join(program.folder());
+        fs::create_dir_all(folder.join(&data)).map_err(told)?;
         let mut cover = Cover::default();
-        let chosen = choose(program, kind);
-        for Chosen { name, script } in &chosen {
-            program.watch(script, &mut cover);
-            args += &format!("{name}\n");
-            stdout += &format!("== {name}\n{}", program.lines(script));
-            let text = text(program, name, script);
+        let chosen = choose(program);
+        chosen.iter().for_each(|random| program.watch(&random.script, &mut cover));
+        println!("{}: {} random scripts, {} records", program.name(), chosen.len(), cover.records);
+        missing += cover.report(&program.points());
+        for Stored { name, text, script } in by_hand(&own.join(&data))?.iter().chain(&chosen) {
             if text.len() > LONGEST_TEXT {
                 return Err(format!("{name} has more than {LONGEST_TEXT} characters"));
             }
-            fs::write(folder.join("data").join(name), text).map_err(told)?;
+            fs::write(folder.join(&data).join(name), text).map_err(told)?;
+            args += &format!("{}/{name}\n", program.folder());
+            stdout += &format!("== {}/{name}\n{}", program.folder(), program.lines(script));
         }
-        println!("{}: {} scripts, {} records", program.name(), chosen.len(), cover.records);
-        missing += cover.report(&program.points());
     }
     fs::write(folder.join("args"), args).map_err(told)?;
     fs::write(folder.join("stdout"), stdout).map_err(told)?;
     if missing == 0 { Ok(()) } else { Err(format!("the corpus does not reach {missing} points")) }
 }
 
+/// The scripts of a folder that are not random.
+fn by_hand(folder: &Path) -> Result<Vec<Stored>, String> {
+    let told = |error: std::io::Error| format!("{}: {error}", folder.display());
+    let mut scripts = Vec::new();
+    for entry in fs::read_dir(folder).map_err(told)? {
+        let file = entry.map_err(told)?.path();
+        let name = file.file_name().unwrap_or_default().to_string_lossy().into_owned();
+        if !name.starts_with(RANDOM) {
+            let text = fs::read_to_string(&file).map_err(told)?;
+            scripts.push(Stored { name, text, script: hex::script_of(&file)? });
+        }
+    }
+    scripts.sort_by(|a, b| a.name.cmp(&b.name));
+    Ok(scripts)
+}
+
 /// Of the scripts of all seeds, again and again the one that reaches most new points for its cost,
 /// until nothing new is reached.
-fn choose(program: Program, kind: &str) -> Vec<Chosen> {
+fn choose(program: Program) -> Vec<Stored> {
     let points = program.points();
     let mut missing: BTreeSet<usize> = (0..points.len()).collect();
     let mut candidates: Vec<Candidate> = (1..=SEEDS).map(|seed| candidate(program, seed, &points)).collect();
@@ -70,7 +92,7 @@ fn choose(program: Program, kind: &str) -> Vec<Chosen> {
         chosen.push((seed, script));
     }
     chosen.sort();
-    chosen.into_iter().map(|(seed, script)| Chosen { name: format!("{kind}_{seed}.hex"), script }).collect()
+    chosen.into_iter().map(|(seed, script)| random(program, seed, script)).collect()
 }
 
 struct Candidate {
@@ -101,21 +123,9 @@ impl Candidate {
     }
 }
 
-fn text(program: Program, name: &str, script: &[u8]) -> String {
+fn random(program: Program, seed: u64, script: Vec<u8>) -> Stored {
+    let name = format!("{RANDOM}{seed}.hex");
     let comment = format!("{name}: a random script for {}; tests/corpus makes it.", program.name());
-    hex::text(&comment, script, &program.places(script))
-}
-
-/// What a program of crates/ must print: for each script that its file args names, under a heading,
-/// or else for its file stdin.
-pub fn transcript(program: Program, folder: &Path) -> Result<String, String> {
-    let Ok(args) = fs::read_to_string(folder.join("args")) else {
-        return Ok(program.lines(&hex::script_of(&folder.join("stdin"))?));
-    };
-    let mut transcript = String::new();
-    for name in args.lines() {
-        let script = hex::script_of(&folder.join("data").join(name))?;
-        transcript += &format!("== {name}\n{}", program.lines(&script));
-    }
-    Ok(transcript)
+    let text = hex::text(&comment, &script, &program.places(&script));
+    Stored { name, text, script }
 }

@@ -40,8 +40,7 @@ const USAGE: &str = "use, with PROGRAM either cardline or busline:
     model generate PROGRAM SEED RECORDS > SCRIPT    a random script
     model unhex < TEXT > SCRIPT                     a script from hex text with comments
     model cover PROGRAM SCRIPT..                    counts what scripts reach; fails if something is never reached
-    model stdout PROGRAM CRATE                      what a program of crates/ must print for its args and data/, or its stdin
-    model corpus CRATE                              makes args, data/ and stdout of crates/corpus, and counts what they reach
+    model corpus CRATE FOLDER                       makes args, data/ and stdout of crates/corpus anew in a folder, and counts what they reach
     model run COUNT RECORDS FIRST -- LAUNCHER..     compares our programs with the model
     model fuzz COUNT SEED -- LAUNCHER..             the same on damaged scripts and on random bytes
 LAUNCHER is what starts a program of target/bin.";
@@ -65,8 +64,7 @@ fn answer(words: &[&str]) -> Outcome {
         }
         ["unhex"] => print(&hex::bytes(&String::from_utf8_lossy(&input()?))?),
         ["cover", name, files @ ..] => count_reached(Program::named(name)?, files),
-        ["stdout", name, folder] => print(corpus::transcript(Program::named(name)?, Path::new(folder))?.as_bytes()),
-        ["corpus", folder] => corpus::make(Path::new(folder)),
+        ["corpus", own, folder] => corpus::make(Path::new(own), Path::new(folder)),
         ["run", count, records, first, "--", launcher @ ..] => {
             compare::run(number(count)?, number(records)? as usize, number(first)?, launcher)
         }

@@ -30,6 +30,14 @@ impl Program {
         }
     }
 
+    /// The folder of its scripts in the data of crates/corpus.
+    pub fn folder(self) -> &'static str {
+        match self {
+            Program::Cardline => "card",
+            Program::Busline => "bus",
+        }
+    }
+
     /// All that the program prints for a script: a line for each record that it plays.
     pub fn lines(self, script: &[u8]) -> String {
         if script.len() > LONGEST {

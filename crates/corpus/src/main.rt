@@ -1,6 +1,6 @@
-// Corpus: random scripts for both programs, under a heading each. An argument that begins with `b`
-// names a script that is played as busline plays it, any other one that is played as cardline does.
-// The scripts and stdout are the model's: `tests/corpus` makes them again.
+// Corpus: the scripts of data/, under a heading each: those of bus/ are played as busline plays them,
+// the others, of card/, as cardline does. Some are written by hand, the others are random; stdout is
+// what the model wrote for all of them, and `tests/corpus` makes it again.
 use lines::parts::part;
 
 fn main() {
@@ -28,7 +28,7 @@ fn play(i: usize, bytes: &mut [u8]) {
     }
 }
 
-// Whether an argument names a script for a bus.
+// Whether an argument names a script for a bus: one of the folder that begins with `b`.
 fn for_bus(i: usize) -> bool {
     let mut name = [0u8; 64];
     os::arg(i, &mut name);

@@ -4,7 +4,7 @@
 use mathlib.Core.List.{List}
 use Prim.Native.Nat.{ℕ, _≤_}
 use native.Mathlib.Omega.{arith}
-use Rattle.card.proofs.Sending.{sendable}
+use Rattle.card.proofs.Sends.{sendable}
 use Rattle.card.proofs.Outcomes.{FrameOutcome, unheard, damaged, commands, frame-outcome, told}
 use Rattle.card.specs.Frame.{metAlone, frameJudged, spares, frameOf}
 use Rattle.card.specs.Sent.{Sendable}

@@ -11,7 +11,7 @@ use Rattle.base.specs.Output.{laid}
 use Rattle.base.specs.declared.Written.{Written}
 use Rattle.card.specs.Sent.{sentBytes}
 use Rattle.line.specs.Bytes.{anded}
-use Rattle.card.proofs.Sending.{written-bytes, never-refused}
+use Rattle.card.proofs.Sends.{written-bytes, never-refused}
 use Rattle.bus.proofs.Telling.{zeros}
 use Rattle.bus.specs.Hearing.{heardOf}
 use Rattle.bus.specs.declared.Heard.{Heard}

@@ -7,7 +7,7 @@ use denote.Ref.{now}
 use lib.ListN.{length}
 use Rattle.base.specs.Output.{laid}
 use Rattle.base.specs.declared.Written.{Written}
-use Rattle.card.proofs.Sending.{written-bytes, never-refused}
+use Rattle.card.proofs.Sends.{written-bytes, never-refused}
 use Rattle.card.specs.Sent.{sentBytes}
 use Rattle.firmware.proofs.calls.send.Statement.{statement}
 use Rattle.firmware.proofs.calls.send.Tie as tie
