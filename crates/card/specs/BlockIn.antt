@@ -133,12 +133,13 @@ blockJudged card block memory map =
 unfoldable pub keptOf : List ℕ → List ℕ
 keptOf block = take 512 block ++ replicate (512 - length block) 0
 
--- what is kept until it is stored: of these bytes, those of the block where a sector is to be stored, and else none
+-- how many bytes of a block are kept until they are stored: none where no sector is to be stored
 abbrev pub keptLength : Storing → ℕ → ℕ
 keptLength Nothing n = 0
 keptLength (Sector sector) n = min n 512
 keptLength All n = 0
 
+-- and the 512 bytes that are kept
 abbrev pub keptFor : List ℕ → Storing → List ℕ
 keptFor block Nothing = replicate 512 0
 keptFor block (Sector sector) = keptOf block
