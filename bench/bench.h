@@ -3,6 +3,7 @@
 #define BENCH_H
 #include "measured.h"
 #include "measured_bus.h"
+#include "mmc.h"
 
 typedef unsigned char u8;
 typedef unsigned short u16;
@@ -17,6 +18,11 @@ enum {
     INDEX = 4,
     PAYLOAD_LENGTH = 5,
     OUTPUT_SHORT = 6,
+    MEMORY_SIZE = 7,
+    MAP_WRONG = 8,
+    REGISTER_WRONG = 9,
+    OCR_EMPTY = 10,
+    PASSWORD_LONG = 11,
     LENT = 12,
     NO_BLOCK = 15,
     BLOCK_LENGTH = 16,
@@ -41,10 +47,16 @@ struct calls {
     _Bool (*read)(const u8 *memory, usize length, usize at, u8 *out, usize room);
     void (*write)(u8 *memory, usize length, u32 sector, const u8 *bytes);
     _Bool (*erase)(u8 *memory, usize length, const u8 *map, usize groups, u32 first, u32 last);
-    void (*frame)(struct measured_card *card, u8 *password, const u8 *frame, usize length, u8 *memory, usize size, u8 *map, usize groups);
-    void (*block_in)(struct measured_card *card, u8 *password, const u8 *block, usize length, u8 *memory, usize size, u8 *map, usize groups);
-    void (*block_out)(struct measured_card *card, const u8 *password, const u8 *memory, usize size, const u8 *map, usize groups, u8 *out, usize room);
-    void (*work_done)(struct measured_card *card, const u8 *password);
+    u8 (*make)(struct mmc_numbers *card, u8 *cid, u8 *csd, u8 *password, const u8 *identifier, const u8 *specifics, u32 ocr, const u8 *secret,
+               usize secret_length, const u8 *memory, usize size, const u8 *map, usize groups);
+    void (*power_on)(struct mmc_numbers *card, const u8 *cid, const u8 *csd, const u8 *password);
+    void (*work_done)(struct mmc_numbers *card, const u8 *cid, const u8 *csd, const u8 *password);
+    u8 (*frame)(struct mmc_numbers *card, const u8 *cid, const u8 *csd, const u8 *password, const u8 *frame, usize length, u8 *memory, usize size,
+                u8 *map, usize groups, u8 *answer, usize *sent);
+    u8 (*block_in)(struct mmc_numbers *card, const u8 *cid, const u8 *csd, u8 *password, const u8 *block, usize length, u8 *memory, usize size,
+                   u8 *map, usize groups);
+    u8 (*block_out)(struct mmc_numbers *card, const u8 *cid, const u8 *csd, const u8 *password, const u8 *memory, usize size, const u8 *map,
+                    usize groups, u8 *out, usize room, usize *written);
     usize (*rounds)(const u8 *cids, usize count, usize rounds, u16 *addresses);
 };
 enum { SETS = 4 };
@@ -74,7 +86,9 @@ enum work {
     ERASE,
     ERASE_HALF,
     CARD_FIRST,
-    WORK_DONE = CARD_FIRST,
+    MAKE = CARD_FIRST,
+    POWER_ON,
+    WORK_DONE,
     CMD13,
     CMD13_LARGE,
     CMD7,

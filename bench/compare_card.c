@@ -1,20 +1,24 @@
 /* One card's calls, proved and in plain C, on the same records and inputs. */
 #include "bench.h"
 
-enum { SIZE = 16384, GROUPS = 2, ROOM = 2064, STATES = 14 };
+enum { SIZE = 16384, GROUPS = 2, ROOM = 2064, STATES = 14, LARGEST = 33554432, GROUP = 8192 };
 #define COUNT(list) (sizeof(list) / sizeof(list)[0])
 #define ANY(list) (list)[next() % COUNT(list)]
 
-/* All that a call may change; behind the map stand two entries that are not lent. */
+/* All that a call may change and all that it answers: `bytes` is how many it sends or writes. Behind the map stand two entries that are not
+   lent, and behind the answer three bytes. */
 struct side {
-    struct measured_card card;
-    u8 password[16], memory[SIZE + 16], map[GROUPS + 2], out[ROOM];
+    usize bytes;
+    struct mmc_card card;
+    u8 memory[SIZE + 16], map[GROUPS + 2], out[ROOM], answer[MMC_ANSWER + 3], refusal;
 };
 static struct side start, one, two;
 static u8 input[ROOM];
+#define PARTS(side) &(side).card.numbers, (side).card.cid, (side).card.csd, (side).card.password
 
-/* The numbers that mean nothing in a record: a place where the state carries none, ends of tags that are not there. */
-static void settle(struct measured_card *card)
+/* The numbers that mean nothing in a record, made 0: a place where the state carries none, ends of tags that are not there. Ours has them so
+   after each call, plain C leaves them as they were. */
+static void settle(struct mmc_numbers *card)
 {
     if (card->state < 5 || card->state > 9)
         card->at = 0;
@@ -29,9 +33,9 @@ static void begin(u32 state)
     static const u32 AT[] = {0, 1, 2, 511, 512, 513, 1536, 2047, 2048, 8191, 8192, 14336, 15872, 16383, 16384, 0x80000000, 0xFFFFFE00, 0xFFFFFFFF};
     static const u32 LENGTHS[] = {512, 512, 512, 2048, 1, 2, 3, 40, 1024, 2047, 0, 2049, 65535};
     static const u32 ERRORS[] = {0, 0, 0x00C00000, 0x00008000, 0xFFFFFFFF, 0x82400000};
-    static const u32 CSD[] = {0, 0, 0, 0x10, 0x20, 0xCF, 0xFF};
+    static const u8 PROTECTION[] = {0, 0, 0, 0x10, 0x20, 0xCF, 0xFF};
     static const u32 HELD[] = {0, 0, 1, 4, 15, 16, 17, 200};
-    struct measured_card card = {
+    struct mmc_numbers card = {
         .state = state,
         .at = ANY(AT),
         .address = next() % 4 ? 1 : next() & 0xFFFF,
@@ -44,11 +48,13 @@ static void begin(u32 state)
         .password_length = ANY(HELD),
         .groups = next() % 32 ? GROUPS : next() % 4,
         .ocr = next() % 2 ? 0x00FF8000 : 0x80000001,
-        .csd = ANY(CSD),
     };
     settle(&card);
-    start.card = card;
-    fill(start.password, sizeof start.password);
+    start.card.numbers = card;
+    fill(start.card.cid, 16);
+    fill(start.card.csd, 16);
+    fill(start.card.password, 16);
+    start.card.csd[14] = ANY(PROTECTION);
     for (int i = 0; i < GROUPS; i++)
         start.map[i] = next() % 64 ? next() % 2 : (u8)next();
     one = two = start;
@@ -56,8 +62,7 @@ static void begin(u32 state)
 
 static void end(const char *what, const struct calls *theirs, u32 state)
 {
-    settle(&one.card);
-    settle(&two.card);
+    settle(&two.card.numbers);
     same(memcmp(&one, &two, sizeof one) == 0, what, theirs, (long)state);
 }
 
@@ -77,8 +82,8 @@ static void frames(const struct calls *ours, const struct calls *theirs)
                     theirs->write_command((u8)index, ARGUMENTS[a], input, 6);
                     if (next() % 16 == 0)
                         input[next() % 6] ^= 1 << next() % 8;
-                    ours->frame(&one.card, one.password, input, length, one.memory, size, one.map, groups);
-                    theirs->frame(&two.card, two.password, input, length, two.memory, size, two.map, groups);
+                    one.refusal = ours->frame(PARTS(one), input, length, one.memory, size, one.map, groups, one.answer, &one.bytes);
+                    two.refusal = theirs->frame(PARTS(two), input, length, two.memory, size, two.map, groups, two.answer, &two.bytes);
                     end("a frame at a card", theirs, state << 8 | index);
                 }
 }
@@ -86,12 +91,12 @@ static void frames(const struct calls *ours, const struct calls *theirs)
 /* A payload that is most often a lock request near to one that is granted. */
 static void request(void)
 {
-    u32 held = start.card.password_length > 16 ? 16 : start.card.password_length;
+    u32 length = start.card.numbers.password_length, held = length > 16 ? 16 : length;
     u32 told[] = {held, held, held + 1, held + 4, held + 16, held + 17, next() & 0xFF};
     fill(input, sizeof input);
     input[0] = next() % 10;
     input[1] = (u8)ANY(told);
-    memcpy(input + 2, start.password, 16);
+    memcpy(input + 2, start.card.password, 16);
     if (next() % 8 == 0)
         input[2 + next() % 16] ^= 1;
 }
@@ -102,7 +107,7 @@ static void blocks_in(const struct calls *ours, const struct calls *theirs)
     for (u32 state = 0; state < STATES; state++)
         for (int turn = 0; turn < (state >= 8 && state <= 10 ? 20000 : 500); turn++) {
             begin(state);
-            u32 held = start.card.length, n = state != 10 ? 512 : held < 1 || held > 2048 ? 2048 : held;
+            u32 held = start.card.numbers.length, n = state != 10 ? 512 : held < 1 || held > 2048 ? 2048 : held;
             if (next() % 16 == 0)
                 n = 1 + next() % 2048;
             request();
@@ -110,8 +115,8 @@ static void blocks_in(const struct calls *ours, const struct calls *theirs)
             if (next() % 16 == 0)
                 block[next() % (n + 2)] ^= 1 << next() % 8;
             usize length = next() % 16 ? n + 2 : next() % (n + 4), size = next() % 64 ? SIZE : SIZE - next() % 8194;
-            ours->block_in(&one.card, one.password, block, length, one.memory, size, one.map, GROUPS);
-            theirs->block_in(&two.card, two.password, block, length, two.memory, size, two.map, GROUPS);
+            one.refusal = ours->block_in(PARTS(one), block, length, one.memory, size, one.map, GROUPS);
+            two.refusal = theirs->block_in(PARTS(two), block, length, two.memory, size, two.map, GROUPS);
             end("a block into a card", theirs, state);
         }
 }
@@ -121,13 +126,62 @@ static void blocks_out(const struct calls *ours, const struct calls *theirs)
     for (u32 state = 0; state < STATES; state++)
         for (int turn = 0; turn < (state >= 5 && state <= 7 ? 20000 : 500); turn++) {
             begin(state);
-            usize rooms[] = {2050, 2051, 514, 513, 5, 6, 7, start.card.length + 1, start.card.length + 2, next() % 2060};
+            u32 n = start.card.numbers.length;
+            usize rooms[] = {2050, 2051, 514, 513, 5, 6, 7, n + 1, n + 2, next() % 2060};
             usize room = ANY(rooms), size = next() % 64 ? SIZE : SIZE - next() % 8194;
             if (room > ROOM)
                 room = ROOM;
-            ours->block_out(&one.card, one.password, one.memory, size, one.map, GROUPS, one.out, room);
-            theirs->block_out(&two.card, two.password, two.memory, size, two.map, GROUPS, two.out, room);
+            one.refusal = ours->block_out(PARTS(one), one.memory, size, one.map, GROUPS, one.out, room, &one.bytes);
+            two.refusal = theirs->block_out(PARTS(two), two.memory, size, two.map, GROUPS, two.out, room, &two.bytes);
             end("a block out of a card", theirs, state);
+        }
+}
+
+/* A register that most often ends as it is to. */
+static void choose(u8 *bytes, const struct calls *theirs)
+{
+    fill(bytes, 16);
+    if (next() % 8 != 0)
+        bytes[15] = (u8)(theirs->crc7(bytes, 15) << 1 | 1);
+}
+
+/* Memories of every allowed and refused kind of length, passwords of 0 to 18 bytes; some maps, registers and OCRs wrong. */
+static void makes(const struct calls *ours, const struct calls *theirs)
+{
+    static const usize SIZES[] = {0, 1, 8191, 8192, 8193, 16384, LARGEST - GROUP, LARGEST, LARGEST + 1, LARGEST + GROUP};
+    static const u32 OCRS[] = {0x00FF8000, 1, 0x00800000, 0xFFFFFFFF, 0xFF000000, 0};
+    static u8 memory[LARGEST + GROUP], map[LARGEST / GROUP + 2];
+    for (usize s = 0; s < COUNT(SIZES); s++)
+        for (usize length = 0; length <= 18; length++)
+            for (int turn = 0; turn < 60; turn++) {
+                u8 cid[16], csd[16];
+                usize size = SIZES[s], groups = next() % 8 ? size / GROUP : size / GROUP + next() % 2;
+                usize entry = next() % (size / GROUP + 2);
+                u32 ocr = ANY(OCRS);
+                begin(next() % STATES);
+                choose(cid, theirs);
+                choose(csd, theirs);
+                fill(input, 18);
+                map[entry] = next() % 4 ? next() % 2 : (u8)next();
+                one.refusal = ours->make(PARTS(one), cid, csd, ocr, input, length, memory, size, map, groups);
+                two.refusal = theirs->make(PARTS(two), cid, csd, ocr, input, length, memory, size, map, groups);
+                end("a card made", theirs, (u32)size);
+                map[entry] = 0;
+            }
+}
+
+static void moves(const struct calls *ours, const struct calls *theirs)
+{
+    for (u32 state = 0; state < STATES; state++)
+        for (int turn = 0; turn < 500; turn++) {
+            begin(state);
+            ours->power_on(PARTS(one));
+            theirs->power_on(PARTS(two));
+            end("power-on", theirs, state);
+            begin(state);
+            ours->work_done(PARTS(one));
+            theirs->work_done(PARTS(two));
+            end("work done", theirs, state);
         }
 }
 
@@ -135,15 +189,12 @@ void compare_card(const struct calls *ours, const struct calls *theirs)
 {
     fill(start.memory, sizeof start.memory);
     fill(start.out, sizeof start.out);
+    fill(start.answer, sizeof start.answer);
+    start.bytes = next();
     start.map[GROUPS] = start.map[GROUPS + 1] = 1;
     frames(ours, theirs);
     blocks_in(ours, theirs);
     blocks_out(ours, theirs);
-    for (u32 state = 0; state < STATES; state++)
-        for (int turn = 0; turn < 500; turn++) {
-            begin(state);
-            ours->work_done(&one.card, one.password);
-            theirs->work_done(&two.card, two.password);
-            end("work done", theirs, state);
-        }
+    makes(ours, theirs);
+    moves(ours, theirs);
 }

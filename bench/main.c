@@ -1,6 +1,5 @@
 /* The table: instructions and times of the proved calls and of plain C, in one run. */
 #include "bench.h"
-#include "mmc.h"
 #define PREFIX plain_
 #include "plain.h"
 #undef PREFIX
@@ -18,15 +17,15 @@ struct timespec {
 };
 int clock_gettime(int clock, struct timespec *time);
 
-#define CALLS(name, p, q, r) \
-    {name,     p##crc7, p##crc16, p##read_frame, p##write_command, p##write_block, p##check_block, q##fill, \
-     q##read,  q##write, q##erase, q##frame,      q##block_in,      q##block_out,   q##work_done, \
-     r##rounds}
+/* The prefixes of check sums, frames and blocks, of the memory, of a card and of a bus. */
+#define CALLS(name, p, q, c, r) \
+    {name,     p##crc7,  p##crc16, p##read_frame, p##write_command, p##write_block, p##check_block, q##fill,      q##read, \
+     q##write, q##erase, c##make,  c##power_on,   c##work_done,     c##frame,       c##block_in,    c##block_out, r##rounds}
 static const struct calls SET[SETS] = {
-    CALLS("ours", mmc_, measured_, measured_),
-    CALLS("plain C", plain_, plain_, plain_),
-    CALLS("plain C -O2", free_, free_, free_),
-    CALLS("plain C -O2 in one file", one_, one_, one_bus_),
+    CALLS("ours", mmc_, measured_, mmc_parts_, measured_),
+    CALLS("plain C", plain_, plain_, plain_, plain_),
+    CALLS("plain C -O2", free_, free_, free_, free_),
+    CALLS("plain C -O2 in one file", one_, one_, one_, one_bus_),
 };
 static const char *const NAMES[CARD_FIRST] = {
     "CRC16, 2,048 bytes", "CRC7, 5 bytes",   "frame read",        "frame written",  "block written, 512", "block checked, 512",

@@ -1,4 +1,4 @@
-/* Blocks into and out of one card, and work done, in plain C: the record by pointer and altered in its place. */
+/* Blocks into and out of one card in plain C: the record by pointer and altered in its place. */
 #include "bench.h"
 #include "plain.h"
 #include "plain_card.h"
@@ -13,21 +13,22 @@ static int password_equals(const u8 *payload, const u8 *password, u32 length)
     return 1;
 }
 
-static void keep_password(struct measured_card *card, u8 *password, const u8 *bytes, u32 length)
+static void keep_password(struct mmc_numbers *card, u8 *password, const u8 *bytes, u32 length)
 {
-    for (u32 i = 0; i < 16; i++)
+    for (u32 i = 0; i < LONGEST_PASSWORD; i++)
         password[i] = i < length ? bytes[i] : 0;
     card->password_length = length;
 }
 
-static int lock_request(struct measured_card *card, u8 *password, const u8 *payload, u32 n, u8 *memory, usize size, u8 *map, usize groups)
+static int lock_request(struct mmc_numbers *card, const u8 *csd, u8 *password, const u8 *payload, u32 n, u8 *memory, usize size, u8 *map,
+                        usize groups)
 {
-    u32 held = card->password_length > 16 ? 16 : card->password_length, told;
+    u32 held = card->password_length > LONGEST_PASSWORD ? LONGEST_PASSWORD : card->password_length, told;
     int for_locked = payload[0] == UNLOCK || payload[0] == FORCED_ERASE;
     if (for_locked != (int)card->locked)
         return 0;
     if (payload[0] == FORCED_ERASE) {
-        if (card->csd & WHOLE_CARD)
+        if (whole_card(csd))
             return 0;
         PLAIN(fill)(memory, size);
         for (usize i = 0; i < groups; i++)
@@ -40,7 +41,7 @@ static int lock_request(struct measured_card *card, u8 *password, const u8 *payl
         return 0;
     told = payload[1];
     if (payload[0] == SET || payload[0] == SET_AND_LOCK) {
-        if (told < held + 1 || told > held + 16 || !password_equals(payload, password, held))
+        if (told < held + 1 || told > held + LONGEST_PASSWORD || !password_equals(payload, password, held))
             return 0;
         keep_password(card, password, payload + 2 + held, told - held);
         if (payload[0] == SET_AND_LOCK)
@@ -64,58 +65,51 @@ static int lock_request(struct measured_card *card, u8 *password, const u8 *payl
 }
 
 /* One block and a lock request go to tran, the block after many stays. */
-static void refuse_block(struct measured_card *card, u8 refusal, u32 error)
+static u8 refuse_block(struct mmc_numbers *card, u8 refusal, u32 error)
 {
     if (card->state != RCV_MANY)
         card->state = TRAN;
-    refuse(card, refusal, error);
+    return refuse(card, refusal, error);
 }
 
-void PLAIN(block_in)(struct measured_card *card, u8 *password, const u8 *block, usize length, u8 *memory, usize size, u8 *map, usize groups)
+static u8 store_block(struct mmc_numbers *card, const u8 *csd, const u8 *block, u8 *memory, usize size, const u8 *map)
 {
-    card->outcome = card->sent = card->status = 0;
-    if (!lent_right(card, size, map, groups)) {
-        refuse(card, LENT, 0);
-        return;
-    }
-    if (card->state < RCV_ONE || card->state > RCV_LOCK) {
-        refuse(card, NO_BLOCK, 0);
-        return;
-    }
-    u32 n = card->state == RCV_LOCK ? read_length(card) : SECTOR;
-    if (length != n + 2) {
-        refuse_block(card, BLOCK_LENGTH, BLOCK_LEN_ERROR);
-        return;
-    }
-    if (PLAIN(check_block)(block, length) != 0) {
-        refuse_block(card, BLOCK_CRC, 0);
-        return;
-    }
-    if (card->state == RCV_LOCK) {
-        if (lock_request(card, password, block, n, memory, size, map, groups))
-            card->state = PRG;
-        else
-            refuse_block(card, LOCK_FAILED, LOCK_UNLOCK_FAILED);
-        return;
-    }
     u32 sector = card->at / SECTOR;
-    if (sector >= card->groups * GROUP_SECTORS) {
-        refuse_block(card, PAST_END, OUT_OF_RANGE);
-        return;
-    }
-    if (card->csd & WHOLE_CARD || map[sector / GROUP_SECTORS] != 0) {
-        refuse_block(card, PROTECTED, WP_VIOLATION);
-        return;
-    }
+    if (sector >= card->groups * GROUP_SECTORS)
+        return refuse_block(card, PAST_END, OUT_OF_RANGE);
+    if (whole_card(csd) || map[sector / GROUP_SECTORS] != 0)
+        return refuse_block(card, PROTECTED, WP_VIOLATION);
     PLAIN(write)(memory, size, sector, block);
     if (card->state == RCV_ONE)
         card->state = PRG;
     else
         card->at = sector * SECTOR + SECTOR;
+    return 0;
+}
+
+u8 PLAIN(block_in)(struct mmc_numbers *card, const u8 *cid, const u8 *csd, u8 *password, const u8 *block, usize length, u8 *memory, usize size,
+                   u8 *map, usize groups)
+{
+    (void)cid;
+    if (!lent_right(card, size, map, groups))
+        return LENT;
+    if (card->state < RCV_ONE || card->state > RCV_LOCK)
+        return NO_BLOCK;
+    u32 n = card->state == RCV_LOCK ? read_length(card) : SECTOR;
+    if (length != n + 2)
+        return refuse_block(card, BLOCK_LENGTH, BLOCK_LEN_ERROR);
+    if (PLAIN(check_block)(block, length) != 0)
+        return refuse_block(card, BLOCK_CRC, 0);
+    if (card->state != RCV_LOCK)
+        return store_block(card, csd, block, memory, size, map);
+    if (!lock_request(card, csd, password, block, n, memory, size, map, groups))
+        return refuse_block(card, LOCK_FAILED, LOCK_UNLOCK_FAILED);
+    card->state = PRG;
+    return 0;
 }
 
 /* 32 bits from a group on, that group lowest; groups past the end read 0. */
-static void send_bits(struct measured_card *card, const u8 *map, usize groups, u8 *out, usize room)
+static void send_bits(struct mmc_numbers *card, const u8 *map, usize groups, u8 *out, usize room)
 {
     u32 bits = 0;
     for (usize i = 0; i < 32; i++)
@@ -125,51 +119,31 @@ static void send_bits(struct measured_card *card, const u8 *map, usize groups, u
     PLAIN(write_block)(bytes, 4, out, room);
 }
 
-void PLAIN(block_out)(struct measured_card *card, const u8 *password, const u8 *memory, usize size, const u8 *map, usize groups, u8 *out, usize room)
+u8 PLAIN(block_out)(struct mmc_numbers *card, const u8 *cid, const u8 *csd, const u8 *password, const u8 *memory, usize size, const u8 *map,
+                    usize groups, u8 *out, usize room, usize *written)
 {
-    (void)password;
-    card->outcome = card->sent = card->status = 0;
-    if (!lent_right(card, size, map, groups)) {
-        refuse(card, LENT, 0);
-        return;
-    }
-    if (card->state < DATA_ONE || card->state > DATA_BITS) {
-        refuse(card, NO_BLOCK, 0);
-        return;
-    }
+    (void)cid, (void)csd, (void)password;
+    *written = 0;
+    if (!lent_right(card, size, map, groups))
+        return LENT;
+    if (card->state < DATA_ONE || card->state > DATA_BITS)
+        return NO_BLOCK;
     u32 n = card->state == DATA_BITS ? 4 : read_length(card);
-    if (room < n + 2) {
-        refuse(card, OUTPUT_SHORT, 0);
-        return;
-    }
+    if (room < n + 2)
+        return OUTPUT_SHORT;
     if (card->state == DATA_BITS) {
         send_bits(card, map, groups, out, room);
-        card->state = TRAN;
-        card->outcome = WROTE + n + 2;
-        return;
+    } else {
+        if ((usize)card->at + n > size)
+            return refuse(card, PAST_END, OUT_OF_RANGE);
+        if (card->at % LONGEST + n > LONGEST)
+            return refuse(card, BLOCK_CROSSES, ADDRESS_ERROR);
+        PLAIN(write_block)(memory + card->at, n, out, room);
     }
-    if ((usize)card->at + n > size) {
-        refuse(card, PAST_END, OUT_OF_RANGE);
-        return;
-    }
-    if (card->at % LONGEST + n > LONGEST) {
-        refuse(card, BLOCK_CROSSES, ADDRESS_ERROR);
-        return;
-    }
-    PLAIN(write_block)(memory + card->at, n, out, room);
-    if (card->state == DATA_ONE)
-        card->state = TRAN;
-    else
+    if (card->state == DATA_MANY)
         card->at += n;
-    card->outcome = WROTE + n + 2;
-}
-
-void PLAIN(work_done)(struct measured_card *card, const u8 *password)
-{
-    (void)password;
-    card->outcome = card->sent = card->status = 0;
-    if (card->state == PRG)
+    else
         card->state = TRAN;
-    else if (card->state == DIS)
-        card->state = STBY;
+    *written = n + 2;
+    return 0;
 }

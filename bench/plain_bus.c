@@ -6,16 +6,12 @@
 #include "plain_card.h"
 #include "plain_command.h"
 
-enum { MOST = 30, CID = 16, LINE = 17, BUS_CARDS = 13, BUS_INDEX = 14 };
+enum { MOST = 30, LINE = 17, BUS_CARDS = 13, BUS_INDEX = 14 };
 /* Bit i is set where the bus takes command i. */
 #define ON_BUS 0xA69Fu
 
-struct bus_card {
-    struct measured_card card;
-    u8 cid[CID], csd[CID];
-};
 struct bus {
-    struct bus_card cards[MOST];
+    struct mmc_card cards[MOST];
     usize count;
 };
 
@@ -23,11 +19,12 @@ static u8 add(struct bus *bus, const u8 *cid)
 {
     if (bus->count >= MOST)
         return BUS_CARDS;
-    struct bus_card *card = &bus->cards[bus->count++];
-    card->card = (struct measured_card){.state = READY, .address = 1, .length = 512, .groups = 1, .ocr = 0x00FF8000};
-    for (int i = 0; i < CID; i++) {
+    struct mmc_card *card = &bus->cards[bus->count++];
+    card->numbers = (struct mmc_numbers){.state = READY, .address = 1, .length = 512, .groups = 1, .ocr = 0x00FF8000};
+    for (int i = 0; i < REGISTER; i++) {
         card->cid[i] = cid[i];
-        card->csd[i] = i == CID - 1;
+        card->csd[i] = i == REGISTER - 1;
+        card->password[i] = 0;
     }
     return 0;
 }
@@ -35,7 +32,7 @@ static u8 add(struct bus *bus, const u8 *cid)
 /* Below 0, 0 or above 0, as the first byte says in which they differ. */
 static int order(const u8 *a, const u8 *b)
 {
-    for (int i = 0; i < CID; i++)
+    for (int i = 0; i < REGISTER; i++)
         if (a[i] != b[i])
             return a[i] - b[i];
     return 0;
@@ -45,47 +42,9 @@ static const u8 *lowest(const struct bus *bus)
 {
     const u8 *low = 0;
     for (usize i = 0; i < bus->count; i++)
-        if (bus->cards[i].card.state == READY && (low == 0 || order(bus->cards[i].cid, low) < 0))
+        if (bus->cards[i].numbers.state == READY && (low == 0 || order(bus->cards[i].cid, low) < 0))
             low = bus->cards[i].cid;
     return low;
-}
-
-static usize put_register(const u8 *bytes, u8 *out)
-{
-    out[0] = 0x3F;
-    for (int i = 0; i < CID; i++)
-        out[1 + i] = bytes[i];
-    return LINE;
-}
-
-static usize put_word(u8 first, u32 word, u8 *out)
-{
-    out[0] = first;
-    out[1] = (u8)(word >> 24);
-    out[2] = (u8)(word >> 16);
-    out[3] = (u8)(word >> 8);
-    out[4] = (u8)word;
-    return 6;
-}
-
-/* The frame that a card sends, and its length. */
-static usize send(const struct bus_card *card, u8 *out)
-{
-    switch (card->card.sent) {
-    case SENT_NOTHING:
-        return 0;
-    case SENT_CID:
-        return put_register(card->cid, out);
-    case SENT_CSD:
-        return put_register(card->csd, out);
-    case SENT_OCR:
-        out[5] = 0xFF;
-        return put_word(0x3F, card->card.ocr | 0x80000000, out);
-    default:
-        put_word((u8)(card->card.sent - SENT_R1), card->card.status, out);
-        out[5] = (u8)(PLAIN(crc7)(out, 5) << 1 | 1);
-        return 6;
-    }
 }
 
 /* A command for all cards in turn: the bytes that the line shows, and how many. */
@@ -96,13 +55,11 @@ static usize tell(struct bus *bus, u8 index, u32 argument, u8 *line)
     for (usize i = 0; i < LINE; i++)
         line[i] = 0xFF;
     for (usize i = 0; i < bus->count; i++) {
-        struct bus_card *card = &bus->cards[i];
+        struct mmc_card *card = &bus->cards[i];
         u8 sent[LINE];
-        card->card.sent = card->card.status = 0;
-        if (low != 0 && card->card.state == READY && order(card->cid, low) != 0)
+        if (low != 0 && card->numbers.state == READY && order(card->cid, low) != 0)
             continue;
-        command(&card->card, index, argument, 0, 0, 0, 0);
-        usize n = send(card, sent);
+        usize n = command(&card->numbers, card->cid, card->csd, index, argument, 0, 0, 0, 0, sent);
         for (usize b = 0; b < n; b++)
             line[b] &= sent[b];
         if (n > length)
@@ -124,8 +81,8 @@ __attribute__((noinline)) u8 PLAIN(bus_frame)(struct bus *bus, const u8 *frame, 
     u8 refusal = PLAIN(read_frame)(frame, length, &index, &argument);
     if (refusal == FRAME_CRC)
         for (usize i = 0; i < bus->count; i++)
-            if (bus->cards[i].card.state != INA)
-                bus->cards[i].card.errors |= COM_CRC_ERROR;
+            if (bus->cards[i].numbers.state != INA)
+                bus->cards[i].numbers.errors |= COM_CRC_ERROR;
     if (refusal != 0)
         return refusal;
     if (index > 15 || (ON_BUS >> index & 1) == 0)
@@ -140,7 +97,7 @@ usize PLAIN(rounds)(const u8 *cids, usize count, usize rounds, u16 *addresses)
     u8 who[6], address[6], line[LINE];
     usize answered = 0, shown;
     for (usize i = 0; i < count; i++)
-        add(&bus, cids + i % MOST * CID);
+        add(&bus, cids + i % MOST * REGISTER);
     PLAIN(write_command)(2, 0, who, sizeof who);
     for (usize k = 1; k <= rounds; k++) {
         PLAIN(bus_frame)(&bus, who, sizeof who, line, &shown);
@@ -149,6 +106,6 @@ usize PLAIN(rounds)(const u8 *cids, usize count, usize rounds, u16 *addresses)
         PLAIN(bus_frame)(&bus, address, sizeof address, line, &shown);
     }
     for (usize i = 0; i < MOST; i++)
-        addresses[i] = i < bus.count ? (u16)bus.cards[i].card.address : 0;
+        addresses[i] = i < bus.count ? (u16)bus.cards[i].numbers.address : 0;
     return answered;
 }

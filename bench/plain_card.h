@@ -4,8 +4,7 @@
 
 enum { IDLE, READY, IDENT, STBY, TRAN, DATA_ONE, DATA_MANY, DATA_BITS, RCV_ONE, RCV_MANY, RCV_LOCK, PRG, DIS, INA };
 enum { NO_TAGS, START_SECTORS, START_GROUPS, FULL_SECTORS, FULL_GROUPS };
-enum { SENT_NOTHING, SENT_CID, SENT_CSD, SENT_OCR, SENT_R1 };
-enum { WHOLE_CARD = 0x30, LONGEST = 2048, GROUP = 8192, WROTE = 32 };
+enum { REGISTER = 16, LONGEST_PASSWORD = 16, LONGEST = 2048, GROUP = 8192, MOST_GROUPS = 4096 };
 
 #define OUT_OF_RANGE 0x80000000u
 #define ADDRESS_ERROR 0x40000000u
@@ -20,14 +19,20 @@ enum { WHOLE_CARD = 0x30, LONGEST = 2048, GROUP = 8192, WROTE = 32 };
 #define ERASE_RESET 0x00002000u
 #define ERROR_BITS 0xFDC0A000u
 
-static inline u32 read_length(const struct measured_card *card)
+static inline u32 read_length(const struct mmc_numbers *card)
 {
     return card->length < 1 || card->length > LONGEST ? LONGEST : card->length;
 }
 
-static inline int lent_right(const struct measured_card *card, usize size, const u8 *map, usize groups)
+/* The CSD protects the whole card, for now or for good. */
+static inline int whole_card(const u8 *csd)
 {
-    if (size % GROUP != 0 || size / GROUP != card->groups || groups != card->groups)
+    return (csd[14] & 0x30) != 0;
+}
+
+static inline int map_right(const u8 *map, usize groups, usize wanted)
+{
+    if (groups != wanted)
         return 0;
     for (usize i = 0; i < groups; i++)
         if (map[i] > 1)
@@ -35,10 +40,15 @@ static inline int lent_right(const struct measured_card *card, usize size, const
     return 1;
 }
 
-static inline void refuse(struct measured_card *card, u8 refusal, u32 error)
+static inline int lent_right(const struct mmc_numbers *card, usize size, const u8 *map, usize groups)
+{
+    return size % GROUP == 0 && size / GROUP == card->groups && map_right(map, groups, card->groups);
+}
+
+static inline u8 refuse(struct mmc_numbers *card, u8 refusal, u32 error)
 {
     card->errors |= error;
-    card->outcome = refusal;
+    return refusal;
 }
 
 #endif

@@ -1,45 +1,40 @@
 /* What a command does at one card in plain C: the record by pointer and altered in its place, a switch over the command's index, the same
-   checks in the same order. The plain card and the plain bus each read this file: built apart, each has its own copy of the code, and what
-   a card costs does not depend on the bus. */
+   checks in the same order, the answer's bytes written out. The plain card and the plain bus each read this file: built apart, each has its own
+   copy of the code, and what a card costs does not depend on the bus. */
 #ifndef PLAIN_COMMAND_H
 #define PLAIN_COMMAND_H
+#include "plain_answers.h"
 
-/* The number that R1 shows for each state, and bit 8, ready for data. */
-static const u16 SHOWN[14] = {0x0100, 0x0300, 0x0500, 0x0700, 0x0900, 0x0B00, 0x0B00, 0x0B00, 0x0D00, 0x0D00, 0x0D00, 0x0E00, 0x1000, 0x1300};
-
-static void illegal(struct measured_card *card)
+static void illegal(struct mmc_numbers *card)
 {
     if (card->state >= TRAN && card->state <= PRG)
         card->errors |= ILLEGAL_COMMAND;
 }
 
 /* Every taken command but 0, 13 and the erase commands drops tags. */
-static void drop_tags(struct measured_card *card)
+static void drop_tags(struct mmc_numbers *card)
 {
     if (card->tags != NO_TAGS)
         card->errors |= ERASE_RESET;
     card->tags = NO_TAGS;
 }
 
-static void answer_r1(struct measured_card *card, u8 index, u32 state)
+/* As after power-on, but for the lock. */
+static void reset(struct mmc_numbers *card)
 {
-    card->status = (card->errors & ERROR_BITS) | card->locked << 25 | SHOWN[state];
-    card->sent = SENT_R1 + index;
+    card->state = IDLE;
+    card->address = 1;
+    card->length = 512;
     card->errors = 0;
+    card->tags = NO_TAGS;
 }
 
-static void answer(struct measured_card *card, u32 sent)
-{
-    card->sent = sent;
-    card->errors &= ~(COM_CRC_ERROR | ILLEGAL_COMMAND);
-}
-
-static u32 range_error(const struct measured_card *card, u32 address)
+static u32 range_error(const struct mmc_numbers *card, u32 address)
 {
     return address >= card->groups * GROUP ? OUT_OF_RANGE : 0;
 }
 
-static u32 read_error(const struct measured_card *card, u32 address)
+static u32 read_error(const struct mmc_numbers *card, u32 address)
 {
     u32 length = read_length(card);
     if ((usize)address + length > (usize)card->groups * GROUP)
@@ -47,7 +42,7 @@ static u32 read_error(const struct measured_card *card, u32 address)
     return address % LONGEST + length > LONGEST ? ADDRESS_ERROR : 0;
 }
 
-static u32 write_error(const struct measured_card *card, u32 address)
+static u32 write_error(const struct mmc_numbers *card, u32 address)
 {
     if (read_length(card) != SECTOR)
         return BLOCK_LEN_ERROR;
@@ -56,7 +51,7 @@ static u32 write_error(const struct measured_card *card, u32 address)
     return address % SECTOR != 0 ? ADDRESS_ERROR : 0;
 }
 
-static u32 tag_start(struct measured_card *card, u32 kind, u32 address, u32 unit)
+static u32 tag_start(struct mmc_numbers *card, u32 kind, u32 address, u32 unit)
 {
     card->tags = NO_TAGS;
     if (range_error(card, address))
@@ -67,7 +62,7 @@ static u32 tag_start(struct measured_card *card, u32 kind, u32 address, u32 unit
 }
 
 /* A start of a kind and a range of it differ by 2. */
-static u32 tag_end(struct measured_card *card, u32 kind, u32 address, u32 unit)
+static u32 tag_end(struct mmc_numbers *card, u32 kind, u32 address, u32 unit)
 {
     u32 tags = card->tags, last = address / unit;
     card->tags = NO_TAGS;
@@ -83,20 +78,20 @@ static u32 tag_end(struct measured_card *card, u32 kind, u32 address, u32 unit)
 }
 
 /* Whether any sector was spared. */
-static int erase_tagged(const struct measured_card *card, u32 tags, u8 *memory, usize size, const u8 *map, usize groups)
+static int erase_tagged(const struct mmc_numbers *card, const u8 *csd, u32 tags, u8 *memory, usize size, const u8 *map, usize groups)
 {
     u32 first = card->first, last = card->last;
     if (tags == FULL_GROUPS) {
         first *= 8;
         last = last * 8 + 7;
     }
-    if (card->csd & WHOLE_CARD)
+    if (whole_card(csd))
         return first <= last && first < size / SECTOR;
     return PLAIN(erase)(memory, size, map, groups, first, last);
 }
 
 /* The commands of a selected card, all with R1. */
-static void transfer(struct measured_card *card, u8 index, u32 argument, u8 *memory, usize size, u8 *map, usize groups)
+static usize transfer(struct mmc_numbers *card, const u8 *csd, u8 index, u32 argument, u8 *memory, usize size, u8 *map, usize groups, u8 *out)
 {
     u32 error = 0, next = TRAN, at = argument, tags = card->tags, spared = 0;
     if (index < 32 || index > 38)
@@ -104,8 +99,7 @@ static void transfer(struct measured_card *card, u8 index, u32 argument, u8 *mem
     if (card->locked && index != 42) {
         card->tags = NO_TAGS;
         card->errors |= LOCK_UNLOCK_FAILED;
-        answer_r1(card, index, TRAN);
-        return;
+        return answer_r1(card, index, TRAN, out);
     }
     switch (index) {
     case 16:
@@ -153,7 +147,7 @@ static void transfer(struct measured_card *card, u8 index, u32 argument, u8 *mem
         if (tags < FULL_SECTORS)
             error = ERASE_SEQ_ERROR;
         else
-            spared = erase_tagged(card, tags, memory, size, map, groups);
+            spared = erase_tagged(card, csd, tags, memory, size, map, groups);
         next = PRG;
         break;
     case 42:
@@ -161,117 +155,116 @@ static void transfer(struct measured_card *card, u8 index, u32 argument, u8 *mem
         break;
     }
     card->errors |= error;
-    answer_r1(card, index, TRAN);
+    answer_r1(card, index, TRAN, out);
     if (error)
-        return;
+        return 6;
     if (spared)
         card->errors |= WP_ERASE_SKIP;
     card->state = next;
     card->at = at;
+    return 6;
 }
 
-static void command(struct measured_card *card, u8 index, u32 argument, u8 *memory, usize size, u8 *map, usize groups)
+static usize select_own(struct mmc_numbers *card, u32 state, u8 *out)
+{
+    if (state != STBY && state != DIS) {
+        illegal(card);
+        return 0;
+    }
+    drop_tags(card);
+    card->state = state == STBY ? TRAN : PRG;
+    return answer_r1(card, 7, state, out);
+}
+
+static usize select_other(struct mmc_numbers *card, u32 state)
+{
+    if ((state < TRAN || state > DATA_BITS) && state != PRG)
+        return 0;
+    drop_tags(card);
+    card->state = state == PRG ? DIS : STBY;
+    return answer_nothing(card);
+}
+
+static usize set_address(struct mmc_numbers *card, u32 address, u8 *out)
+{
+    drop_tags(card);
+    if (address == 0) {
+        card->errors |= OUT_OF_RANGE;
+    } else {
+        card->address = address;
+        card->state = STBY;
+    }
+    return answer_r1(card, 3, IDENT, out);
+}
+
+static usize voltages(struct mmc_numbers *card, u32 window, u8 *out)
+{
+    drop_tags(card);
+    if (window == 0)
+        return answer_r3(card, out);
+    if ((window & card->ocr) == 0) {
+        card->state = INA;
+        return answer_nothing(card);
+    }
+    card->state = READY;
+    return answer_r3(card, out);
+}
+
+/* What the card sends is written to `out`: how many bytes. */
+static usize command(struct mmc_numbers *card, const u8 *cid, const u8 *csd, u8 index, u32 argument, u8 *memory, usize size, u8 *map, usize groups,
+                     u8 *out)
 {
     u32 state = card->state;
     int own = argument >> 16 == card->address;
     if (state == INA)
-        return;
+        return 0;
     switch (index) {
     case 0:
-        card->state = IDLE;
-        card->address = 1;
-        card->length = 512;
-        card->errors = 0;
-        card->tags = NO_TAGS;
-        break;
+        reset(card);
+        return 0;
     case 1:
-        if (state != IDLE)
-            break;
-        drop_tags(card);
-        if ((argument & 0xFFFFFF) == 0) {
-            answer(card, SENT_OCR);
-        } else if ((argument & card->ocr & 0xFFFFFF) != 0) {
-            card->state = READY;
-            answer(card, SENT_OCR);
-        } else {
-            card->state = INA;
-            answer(card, SENT_NOTHING);
-        }
-        break;
+        return state == IDLE ? voltages(card, argument & 0xFFFFFF, out) : 0;
     case 2:
         if (state != READY)
-            break;
+            return 0;
         drop_tags(card);
         card->state = IDENT;
-        answer(card, SENT_CID);
-        break;
+        return answer_r2(card, cid, out);
     case 3:
-        if (state != IDENT)
-            break;
-        drop_tags(card);
-        if (argument >> 16 == 0) {
-            card->errors |= OUT_OF_RANGE;
-        } else {
-            card->address = argument >> 16;
-            card->state = STBY;
-        }
-        answer_r1(card, 3, IDENT);
-        break;
+        return state == IDENT ? set_address(card, argument >> 16, out) : 0;
     case 4:
-        break;
+        return 0;
     case 7:
-        if (own && (state == STBY || state == DIS)) {
-            drop_tags(card);
-            card->state = state == STBY ? TRAN : PRG;
-            answer_r1(card, 7, state);
-        } else if (own) {
-            illegal(card);
-        } else if ((state >= TRAN && state <= DATA_BITS) || state == PRG) {
-            drop_tags(card);
-            card->state = state == PRG ? DIS : STBY;
-            answer(card, SENT_NOTHING);
-        }
-        break;
+        return own ? select_own(card, state, out) : select_other(card, state);
     case 9:
     case 10:
         if (!own)
+            return 0;
+        if (state != STBY)
             break;
-        if (state != STBY) {
-            illegal(card);
-            break;
-        }
         drop_tags(card);
-        answer(card, index == 9 ? SENT_CSD : SENT_CID);
-        break;
+        return answer_r2(card, index == 9 ? csd : cid, out);
     case 12:
-        if (state < DATA_ONE || state > RCV_LOCK) {
-            illegal(card);
+        if (state < DATA_ONE || state > RCV_LOCK)
             break;
-        }
         drop_tags(card);
         card->state = state <= DATA_BITS ? TRAN : PRG;
-        answer_r1(card, 12, state);
-        break;
+        return answer_r1(card, 12, state, out);
     case 13:
-        if (own && state >= STBY)
-            answer_r1(card, 13, state);
-        break;
+        return own && state >= STBY ? answer_r1(card, 13, state, out) : 0;
     case 15:
-        if (own && state >= STBY) {
-            drop_tags(card);
-            card->state = INA;
-            answer(card, SENT_NOTHING);
-        }
-        break;
+        if (!own || state < STBY)
+            return 0;
+        drop_tags(card);
+        card->state = INA;
+        return answer_nothing(card);
     case 16: case 17: case 18: case 24: case 25: case 28: case 29: case 30: case 32: case 33: case 35: case 36: case 38: case 42:
-        if (state == TRAN)
-            transfer(card, index, argument, memory, size, map, groups);
-        else
-            illegal(card);
-        break;
-    default:
-        illegal(card);
+        if (state != TRAN)
+            break;
+        return transfer(card, csd, index, argument, memory, size, map, groups, out);
     }
+    illegal(card);
+    return 0;
 }
 
 #endif

@@ -17,25 +17,4 @@ void measured_write(unsigned char *memory, unsigned long length, unsigned int se
 _Bool measured_erase(unsigned char *memory, unsigned long length, const unsigned char *map, unsigned long groups, unsigned int first,
                      unsigned int last);
 
-/* A card's record, and behind it what the last call answered.
-   state: idle 0, ready 1, ident 2, stby 3, tran 4; data with one block to send 5, with many 6, with protection bits 7; rcv for one
-   block 8, for many 9, for a lock request 10; prg 11, dis 12, ina 13. `at` is the address, or the group, that data and rcv carry.
-   tags: none 0, a start of sectors 1, of erase groups 2, both ends of sectors 3, of erase groups 4. csd is byte 14 of the CSD, the
-   other bytes of CID and CSD are 0.
-   outcome: done 0, a refusal's number, or 32 and the bytes written. sent: nothing 0, CID 1, CSD 2, OCR 3, R1 with `status` 4 and its
-   index. */
-struct measured_card {
-    unsigned int state, at, address, length, errors, tags, first, last, locked, password_length, groups, ocr, csd;
-    unsigned int outcome, sent, status;
-};
-
-/* A frame, a block in, a block out and work done at a card, whose password has 16 bytes of room. */
-void measured_frame(struct measured_card *card, unsigned char *password, const unsigned char *frame, unsigned long length,
-                    unsigned char *memory, unsigned long size, unsigned char *map, unsigned long groups);
-void measured_block_in(struct measured_card *card, unsigned char *password, const unsigned char *block, unsigned long length,
-                       unsigned char *memory, unsigned long size, unsigned char *map, unsigned long groups);
-void measured_block_out(struct measured_card *card, const unsigned char *password, const unsigned char *memory, unsigned long size,
-                        const unsigned char *map, unsigned long groups, unsigned char *out, unsigned long room);
-void measured_work_done(struct measured_card *card, const unsigned char *password);
-
 #endif

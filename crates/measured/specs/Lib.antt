@@ -1,2 +1,1 @@
 pub mod Sectors
-pub mod Words
