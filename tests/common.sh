@@ -20,11 +20,6 @@ compare() {
         printf '%s\n' "$said" >&2
         die 'cardline or busline is not proved, or does not write what its stdout has'
     }
-    # Programs are for x86-64 and are run by the kit's own loader; on another processor its emulator.
-    kit=$(dirname "$(dirname "$(rt doc)")")
-    tools=$kit/on/$(uname -m)/toolchain
-    [ -d "$tools/lib" ] || tools=$kit/toolchain
-    emulator=$tools/bin/qemu-x86_64
-    [ -x "$emulator" ] || emulator=
-    "$work/model" "$@" -- ${emulator:+"$emulator"} "$tools/lib/ld-linux-x86-64.so.2" --library-path "$tools/lib"
+    . tests/kit.sh
+    "$work/model" "$@" -- ${emulator:+"$emulator"} "$lib/ld-linux-x86-64.so.2" --library-path "$lib"
 }
