@@ -20,7 +20,7 @@ use Rattle.bench.specs.Calls.{shownText, sentLine}
 use Rattle.bench.specs.Lines.{refusedLine}
 use Rattle.bench.specs.Words.{frameWord, dataWord}
 use Rattle.bench.specs.Wires.{writtenText, writeFrameText, writeBlockText}
-use Rattle.card.specs.Sent.{sentBytes, sentWritten}
+use Rattle.command.specs.Sending.{sentBytes, sentWritten}
 use Rattle.command.specs.declared.Sent.{Sent}
 use Rattle.command.specs.declared.Sent.the-variants.{Nothing, Status, Cid, Csd, Ocr}
 use Rattle.record.specs.declared.Registers.{Registers}

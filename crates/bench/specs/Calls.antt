@@ -16,7 +16,7 @@ use Rattle.script.specs.declared.Calling.{Calling}
 use Rattle.script.specs.declared.Calling.the-variants.{Frame, BlockIn, BlockOut, WorkDone, PowerOn}
 use Rattle.bench.specs.declared.Said.{Said}
 use Rattle.bench.specs.declared.World.{World}
-use Rattle.card.specs.Sent.{sentBytes, sentWritten}
+use Rattle.command.specs.Sending.{sentBytes, sentWritten}
 use Rattle.card.specs.Step.{stepOf, memoryOf, mapOf, outputOf}
 use Rattle.card.specs.declared.Call.{Call}
 use Rattle.card.specs.declared.Call.the-variants as call

@@ -69,7 +69,7 @@ fn sent_line(count: u64, registers: Registers, sent: Sent, out: &mut [u8]) -> us
     ensures { λ r. ⌜ Wrote (now (out .entry)) (now (out .exit)) 0 r (sentText count registers sent) ⌝ }
 {
     let mut bytes = [0u8; 17];
-    let written = card::write_sent(registers, sent, &mut bytes);
+    let written = command::write_sent(registers, sent, &mut bytes);
     match written {
         Written::Bytes(n) => shown(count, part(&bytes, 0, n), out),
         Written::Refused(refusal) => refused_call(count, refusal, out),

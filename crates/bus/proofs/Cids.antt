@@ -12,7 +12,7 @@ use Prim.Native.Nat.{ℕ, _*_, _≤_}
 use native.Mathlib.Omega.{arith}
 use lib.ListN.{length}
 use Rattle.base.proofs.Cases.{cases}
-use Rattle.card.specs.Sent.{sentBytes}
+use Rattle.command.specs.Sending.{sentBytes}
 use Rattle.command.specs.Command.{commandOf}
 use Rattle.command.specs.declared.Sent.{Sent}
 use Rattle.crc.proofs.Bits.{octets-bits, octets-below, length-bits}

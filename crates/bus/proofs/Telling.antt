@@ -18,7 +18,7 @@ use lib.Dec.{eqb}
 use lib.ListN.{length, take, drop, getD, set, replicate}
 use lib.Seq.{take-suc, length-take-le}
 use Rattle.base.proofs.Cases.{cases}
-use Rattle.card.specs.Sent.{sentBytes}
+use Rattle.command.specs.Sending.{sentBytes}
 use Rattle.command.specs.Command.{commandOf}
 use Rattle.command.specs.declared.Commanded.{Commanded}
 use Rattle.crc.specs.Bits.{octets, Below}

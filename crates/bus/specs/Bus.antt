@@ -8,7 +8,7 @@ use lib.ListN.{length, take, drop, getD, set, replicate}
 use Rattle.base.specs.Choice.{pick, unless}
 use Rattle.base.specs.Refusals.{by}
 use Rattle.base.specs.declared.Refusal.{Refusal}
-use Rattle.card.specs.Sent.{sentBytes}
+use Rattle.command.specs.Sending.{sentBytes}
 use Rattle.command.specs.Command.{damagedLink, commandOf}
 use Rattle.command.specs.declared.Commanded.{Commanded}
 use Rattle.command.specs.declared.Met.{Met}

@@ -5,7 +5,7 @@ use mathlib.Core.Bool.{Bool}
 use mathlib.Core.List.{List, [], _∷_, map}
 use Prim.Native.Nat.{ℕ, max}
 use lib.ListN.{length, take, replicate}
-use Rattle.card.specs.Sent.{sentBytes}
+use Rattle.command.specs.Sending.{sentBytes}
 use Rattle.command.specs.Command.{commandOf}
 use Rattle.line.specs.Bytes.{anded}
 use Rattle.record.specs.Record.{withLink}

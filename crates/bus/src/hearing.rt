@@ -20,7 +20,7 @@ ghost use Prim.Native.Nat.{_≤_, max};
 ghost use lib.ListN.{take};
 ghost use Rattle.bus.specs.Bus.{busIndices, commandFor};
 ghost use Rattle.bus.specs.Hearing.{heardOf, turnOf, shownFrom, toldOf};
-ghost use Rattle.card.specs.Sent.{sentBytes, Sendable};
+ghost use Rattle.command.specs.Sending.{sentBytes, Sendable};
 ghost use Rattle.crc.specs.Bits.{Below};
 ghost use Rattle.line.specs.Bytes.{anded};
 ghost use Rattle.moves.specs.Indices.{among};
@@ -55,7 +55,7 @@ fn hear(heard: Heard, registers: Registers, sent: Sent) -> Heard
     ensures short { λ r. ⌜ r .length ≤ 17 ⌝ }
 {
     let mut sends = [0u8; 17];
-    let written = card::write_sent(registers, sent, &mut sends);
+    let written = command::write_sent(registers, sent, &mut sends);
     let line = heard.line;
     match written {
         Written::Bytes(n) => Heard {

@@ -2,5 +2,4 @@ pub mod BlockIn
 pub mod BlockOut
 pub mod Frame
 pub mod Replies
-pub mod Sent
 pub mod Step

@@ -3,8 +3,8 @@
 // of them. Each judges by value, from the record, the input, the map and the lengths of the rest,
 // and then changes what is lent. No call has a `requires`.
 //
-// Offers: `Outcome`, `Reply`, `Stepped`; `frame`, `block_in`, `block_out`; `Call`, `step`;
-// `write_sent`. The other types are what judging gives: the definitions name them.
+// Offers: `Outcome`, `Reply`, `Stepped`; `frame`, `block_in`, `block_out`; `Call`, `step`. The other
+// types are what judging gives: the definitions name them.
 mod blocks_in;
 mod blocks_out;
 mod frames;
@@ -18,7 +18,6 @@ use command::Sent;
 pub use frames::frame;
 use record::Card;
 use replies::done;
-pub use replies::write_sent;
 ghost use mathlib.Core.Path.{_≡_};
 ghost use lib.ListN.{length};
 ghost use Rattle.card.specs.Step.{stepOf, memoryOf, mapOf, outputOf};

@@ -2,3 +2,4 @@ pub mod Answers
 pub mod Arguments
 pub mod Command
 pub mod Obey
+pub mod Sending

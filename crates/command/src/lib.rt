@@ -3,13 +3,15 @@
 // does to a card stands in obey.rt; which commands are taken, what they answer and which error
 // bits they clear, as MMC mode has it, stands here. No call has a `requires`.
 //
-// Offers: `Met`, `Sent`, `Change`, `Commanded`, `command`; `damaged`.
+// Offers: `Met`, `Sent`, `Change`, `Commanded`, `command`; `damaged`; `write_sent`.
 mod obey;
+mod sending;
 
 use moves::Asked;
 use moves::Move;
 use moves::Row;
 use record::Link;
+pub use sending::write_sent;
 use states::Column;
 use status::ErrorBit;
 use status::Errors;

@@ -4,10 +4,10 @@
 use mathlib.Core.List.{List}
 use Prim.Native.Nat.{ℕ, _≤_}
 use native.Mathlib.Omega.{arith}
-use Rattle.card.proofs.Sends.{sendable}
+use Rattle.command.proofs.Sends.{sendable}
 use Rattle.card.proofs.Outcomes.{FrameOutcome, unheard, damaged, commands, frame-outcome, told}
 use Rattle.card.specs.Frame.{metAlone, frameJudged, spares, frameOf}
-use Rattle.card.specs.Sent.{Sendable}
+use Rattle.command.specs.Sending.{Sendable}
 use Rattle.card.specs.declared.FrameJudged.{FrameJudged}
 use Rattle.card.specs.declared.Stepped.{Stepped}
 use Rattle.crc.specs.Bits.{Below}

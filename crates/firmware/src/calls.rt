@@ -16,7 +16,7 @@ ghost use lib.ListN.{length};
 ghost use Rattle.card.specs.BlockIn.{blockJudged, keptOf, storedBy, clearedBy};
 ghost use Rattle.card.specs.BlockOut.{outJudged, sentOut};
 ghost use Rattle.card.specs.Frame.{frameOf, frameJudged, erasedBy, protectedBy};
-ghost use Rattle.card.specs.Sent.{sentBytes, Sendable};
+ghost use Rattle.command.specs.Sending.{sentBytes, Sendable};
 ghost use Rattle.crossing.specs.Record.{cardOf, numbersOf};
 ghost use Rattle.record.specs.Making.{madeOf};
 ghost use Rattle.record.specs.Power.{poweredOn, worked};
@@ -98,7 +98,7 @@ fn send(registers: Registers, sent: Sent, out: &mut [u8; 17]) -> usize
     ensures answer { λ r. ⌜ r ≡ length (sentBytes registers sent) ⌝ }
     ensures output { λ _. ⌜ now (out .exit) ≡ fronted (sentBytes registers sent) (now (out .entry)) ⌝ }
 {
-    let written = card::write_sent(registers, sent, out);
+    let written = command::write_sent(registers, sent, out);
     match written {
         Written::Bytes(n) => n,
         Written::Refused(_) => 0,

@@ -15,7 +15,7 @@ use lib.ListN.{length, getD}
 use Rattle.base.proofs.Cases.{clash}
 use Rattle.base.specs.Refusals.{by}
 use Rattle.card.specs.Frame.{frameJudged, frameOf as cardFrameOf}
-use Rattle.card.specs.Sent.{sentBytes}
+use Rattle.command.specs.Sending.{sentBytes}
 use Rattle.command.specs.Answers.{responseOf, answered}
 use Rattle.command.specs.Arguments.{argumentFault}
 use Rattle.command.specs.Command.{resetTold, concluded, takenOf, commandOf}

@@ -9,9 +9,9 @@ use lib.ListN.{length, take, drop}
 use lib.Seq.{take-at}
 use Rattle.base.specs.Output.{laid}
 use Rattle.base.specs.declared.Written.{Written}
-use Rattle.card.specs.Sent.{sentBytes}
+use Rattle.command.specs.Sending.{sentBytes}
 use Rattle.line.specs.Bytes.{anded}
-use Rattle.card.proofs.Sends.{written-bytes, never-refused}
+use Rattle.command.proofs.Sends.{written-bytes, never-refused}
 use Rattle.bus.proofs.Telling.{zeros}
 use Rattle.bus.specs.Hearing.{heardOf}
 use Rattle.bus.specs.declared.Heard.{Heard}

@@ -2,8 +2,8 @@
 -- Assumes nothing.
 use mathlib.Core.Path.{sym, ap, ap₂, _∙_, subst}
 use borrow.Author.Needs.{needs}
-use Rattle.card.proofs.Sends.{sendable}
-use Rattle.card.specs.Sent.{sentBytes, Sendable}
+use Rattle.command.proofs.Sends.{sendable}
+use Rattle.command.specs.Sending.{sentBytes, Sendable}
 use Rattle.command.specs.declared.Commanded.{Commanded}
 use Rattle.record.specs.Record.{withLink}
 use Rattle.record.specs.declared.Card.{Card}

@@ -7,8 +7,8 @@ use denote.Ref.{now}
 use lib.ListN.{length}
 use Rattle.base.specs.Output.{laid}
 use Rattle.base.specs.declared.Written.{Written}
-use Rattle.card.proofs.Sends.{written-bytes, never-refused}
-use Rattle.card.specs.Sent.{sentBytes}
+use Rattle.command.proofs.Sends.{written-bytes, never-refused}
+use Rattle.command.specs.Sending.{sentBytes}
 use Rattle.firmware.proofs.calls.send.Statement.{statement}
 use Rattle.firmware.proofs.calls.send.Tie as tie
 

@@ -1,13 +1,13 @@
--- `card::replies::write_sent` meets its contract: each response is written by its own writer.
+-- `command::sending::write_sent` meets its contract: each response is written by its own writer.
 -- Assumes nothing.
 use native.Mathlib.Omega.{arith}
 use borrow.Author.Needs.{needs}
 use borrow.Author.Tests.{le-leb}
 use denote.Ref.{now}
 use lib.ListN.{length}
-use Rattle.card.specs.Sent.{sentBytes, sentWritten}
-use Rattle.card.proofs.replies.write_sent.Statement.{statement}
-use Rattle.card.proofs.replies.write_sent.Tie as tie
+use Rattle.command.specs.Sending.{sentBytes, sentWritten}
+use Rattle.command.proofs.sending.write_sent.Statement.{statement}
+use Rattle.command.proofs.sending.write_sent.Tie as tie
 
 returns : tie.Need-returns
 unfolding sentBytes sentWritten

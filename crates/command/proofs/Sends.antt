@@ -39,7 +39,7 @@ use Rattle.status.specs.declared.Fault.the-variants.{None, Bit}
 use Rattle.tags.specs.declared.Tags.{Tags}
 use Rattle.wire.specs.Frames.{indexed}
 use Rattle.wire.specs.Responses.{r1Frame, r2Frame, r3Frame}
-use Rattle.card.specs.Sent.{sentBytes, sentWritten, Sendable}
+use Rattle.command.specs.Sending.{sentBytes, sentWritten, Sendable}
 
 -- ---- the index of an R1
 sent-sendable : (response : Response) (index status : ℕ) → index ≤ 63 → Sendable (sentOf response index status)
