@@ -1,4 +1,4 @@
-/* What libmeasured.a offers C, on x86-64 Linux, for the measurements of bench/ alone. A pointer to bytes is never null and comes
+/* What libmeasured.a offers C, on x86-64 Linux, for the measurements of measure/ alone. A pointer to bytes is never null and comes
    with how many there are; what a call writes to overlaps nothing else that it is given. */
 #ifndef MEASURED_H
 #define MEASURED_H

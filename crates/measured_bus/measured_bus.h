@@ -1,4 +1,4 @@
-/* What libmeasured_bus.a offers C, on x86-64 Linux, for the measurements of bench/ alone. No pointer is null. */
+/* What libmeasured_bus.a offers C, on x86-64 Linux, for the measurements of measure/ alone. No pointer is null. */
 #ifndef MEASURED_BUS_H
 #define MEASURED_BUS_H
 

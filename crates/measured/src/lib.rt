@@ -1,4 +1,4 @@
-// Calls of `store` with the C interface, for the measurements of bench/ alone: nothing that a unit
+// Calls of `store` with the C interface, for the measurements of measure/ alone: nothing that a unit
 // links stands on this crate. Each call promises what the call behind it promises.
 //
 // Offers: `measured_fill`, `measured_read`, `measured_write`, `measured_erase`.

@@ -1,4 +1,4 @@
-// Rounds of CMD2 and CMD3 on a bus with the C interface, for the measurements of bench/ alone: nothing
+// Rounds of CMD2 and CMD3 on a bus with the C interface, for the measurements of measure/ alone: nothing
 // that a unit links stands on this crate. A library of its own, so that what a card costs in that of
 // `measured` does not depend on the bus beside it.
 //

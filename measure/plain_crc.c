@@ -1,5 +1,5 @@
 /* CRC7 and CRC16 in plain C, each by a table of 256 entries. Built under a prefix for each set of flags. */
-#include "bench.h"
+#include "measure.h"
 #include "plain.h"
 #include "tables.h"
 

@@ -1,5 +1,5 @@
 /* Blocks into and out of one card in plain C: the record by pointer and altered in its place. */
-#include "bench.h"
+#include "measure.h"
 #include "plain.h"
 #include "plain_card.h"
 

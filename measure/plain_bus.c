@@ -1,7 +1,7 @@
 /* Up to 30 cards on one line in plain C: the records lie in an array and are altered in their place, a frame is read once for all cards,
    each takes the command by the plain card's own code, and what they send is ANDed. In CMD2 the CIDs are compared by byte, and the
    losers neither send nor change. */
-#include "bench.h"
+#include "measure.h"
 #include "plain.h"
 #include "plain_card.h"
 #include "plain_command.h"

@@ -1,4 +1,4 @@
-/* What the files of the benchmark share. The kit has no headers, so what is taken from the C library is declared by hand. */
+/* What the files of the measurement share. The kit has no headers, so what is taken from the C library is declared by hand. */
 #ifndef BENCH_H
 #define BENCH_H
 #include "measured.h"

@@ -1,5 +1,5 @@
 /* The table: instructions and times of the proved calls and of plain C, in one run. */
-#include "bench.h"
+#include "measure.h"
 #define PREFIX plain_
 #include "plain.h"
 #undef PREFIX

@@ -1,6 +1,6 @@
 /* What is measured on a bus: rounds of CMD2 and CMD3. The call makes its bus first, so what its rounds cost is what it costs less what the
    same call costs with fewer rounds or none; nothing of the crossing to C is in that. */
-#include "bench.h"
+#include "measure.h"
 
 enum { MOST = 30, CID = 16 };
 /* So many cards with so many distinct CIDs; the CIDs by chance, or alike but for their last two bytes. */

@@ -1,5 +1,5 @@
 /* Rounds on a bus, proved and in plain C, on the same CIDs; and against what demand 3 says of them, counted from the CIDs alone. */
-#include "bench.h"
+#include "measure.h"
 
 enum { MOST = 30, CID = 16, KINDS = 10 };
 #define COUNT(list) (sizeof(list) / sizeof(list)[0])

@@ -1,5 +1,5 @@
 /* Memory filled, read, written and erased in plain C, to the same interface, with the same tests, byte by byte. */
-#include "bench.h"
+#include "measure.h"
 #include "plain.h"
 
 void PLAIN(fill)(u8 *memory, usize length)

@@ -1,5 +1,5 @@
 /* One card's calls, proved and in plain C, on the same records and inputs. */
-#include "bench.h"
+#include "measure.h"
 
 enum { SIZE = 16384, GROUPS = 2, ROOM = 2064, STATES = 14, LARGEST = 33554432, GROUP = 8192 };
 #define COUNT(list) (sizeof(list) / sizeof(list)[0])

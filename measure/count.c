@@ -6,7 +6,7 @@
 
    The stack is the lowest stack pointer seen, below the place of the return address. The 128 bytes under the pointer, which x86-64
    lets a function use that calls no other, are not seen by that. */
-#include "bench.h"
+#include "measure.h"
 
 int fork(void);
 int getpid(void);

@@ -1,5 +1,5 @@
 /* What is measured at one card: for each work its record, and what goes in. */
-#include "bench.h"
+#include "measure.h"
 #include "plain_card.h"
 
 enum { SMALL = 16384, LARGE = 33554432 };

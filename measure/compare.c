@@ -1,5 +1,5 @@
 /* The proved calls against the plain C ones, on the same inputs, before anything is measured. */
-#include "bench.h"
+#include "measure.h"
 
 static usize agreed;
 static u32 seed = 1;

@@ -1,5 +1,5 @@
 /* Frames and blocks in plain C, to the same interface, with the same tests and refusal numbers. */
-#include "bench.h"
+#include "measure.h"
 #include "plain.h"
 
 u8 PLAIN(read_frame)(const u8 *frame, usize length, u8 *index, u32 *argument)

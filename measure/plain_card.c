@@ -1,6 +1,6 @@
 /* One card in plain C: made, powered on, its work done, and a frame: the lent memory and map checked, the frame read, and the command carried
    out, with the same refusal numbers. */
-#include "bench.h"
+#include "measure.h"
 #include "plain.h"
 #include "plain_card.h"
 #include "plain_command.h"
