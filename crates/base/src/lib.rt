@@ -1,9 +1,11 @@
-// What every other crate shares: the refusals of document 01 and the answer of a call that writes
-// into a lent output. The vocabulary of the contracts is in specs/, the laws that proofs share in
-// proofs/.
+// What every other crate shares: the refusals of document 01, the answer of a call that writes into
+// a lent output, and two small tools. The vocabulary of the contracts is in specs/, the laws that
+// proofs share in proofs/.
 //
-// Offers: `Refusal`, `number`, `Written`.
+// Offers: `Refusal`, `number`, `Written`; `least`, `fill`.
 ghost use mathlib.Core.Path.{_≡_};
+ghost use Prim.Native.Nat.{min};
+ghost use lib.ListN.{length, replicate};
 ghost use Rattle.base.specs.Refusals.{numberOf};
 
 // Document 01, "Refusal numbers": a name for each row of the table, in its order.
@@ -64,5 +66,23 @@ pub fn number(r: Refusal) -> u8
         Refusal::Protected => 19,
         Refusal::LockFailed => 20,
         Refusal::BlockCrosses => 21,
+    }
+}
+
+// The smaller of two numbers.
+pub fn least(a: usize, b: usize) -> usize
+    ensures answer { λ r. ⌜ r ≡ min a b ⌝ }
+{
+    if a < b { a } else { b }
+}
+
+// Every byte made one value.
+pub fn fill(bytes: &mut [u8], value: u8)
+    ensures bytes { λ _. ⌜ now (bytes .exit) ≡ replicate (length (now (bytes .entry))) value ⌝ }
+{
+    let mut i: usize = 0;
+    while i < bytes.len() {
+        bytes[i] = value;
+        i += 1;
     }
 }

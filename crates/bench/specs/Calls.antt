@@ -22,7 +22,6 @@ use Rattle.card.specs.declared.Call.{Call}
 use Rattle.card.specs.declared.Call.the-variants as call
 use Rattle.card.specs.declared.Outcome.{Outcome}
 use Rattle.card.specs.declared.Outcome.the-variants.{Done, Wrote, Refused}
-use Rattle.card.specs.declared.Reply.{Reply}
 use Rattle.card.specs.declared.Stepped.{Stepped}
 use Rattle.command.specs.declared.Sent.{Sent}
 use Rattle.record.specs.declared.Registers.{Registers}

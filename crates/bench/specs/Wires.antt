@@ -2,7 +2,7 @@
 -- Assumes nothing.
 use mathlib.Core.List.{List, []}
 use Prim.Native.Nat.{ℕ, _+_}
-use lib.ListN.{take, drop, replicate}
+use lib.ListN.{take, drop}
 use Rattle.base.specs.Output.{laid}
 use Rattle.base.specs.declared.Written.{Written}
 use Rattle.base.specs.declared.Written.the-variants.{Bytes, Refused}

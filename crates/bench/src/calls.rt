@@ -3,7 +3,6 @@
 // Offers: `called`.
 use crate::Said;
 use crate::World;
-use crate::make::fill;
 use crate::text::refused;
 use crate::text::refused_call;
 use crate::text::say_number;
@@ -11,12 +10,13 @@ use crate::text::say_word;
 use crate::worlds::goes_on;
 use crate::worlds::with_card;
 use base::Written;
+use base::fill;
+use base::least;
 use card::Call;
 use card::Outcome;
 use card::Reply;
 use card::Stepped;
 use command::Sent;
-use lines::parts::least;
 use lines::parts::part;
 use lines::text::say;
 use record::Registers;

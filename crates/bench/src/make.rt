@@ -5,8 +5,9 @@ use crate::Said;
 use crate::World;
 use crate::worlds::ends;
 use crate::worlds::goes_on;
+use base::fill;
+use base::least;
 use lines::parts::front;
-use lines::parts::least;
 use lines::parts::part;
 use lines::text::plain;
 use lines::text::refused_by;
@@ -16,21 +17,10 @@ use script::Making;
 use script::Sizes;
 use script::numbers::four;
 ghost use mathlib.Core.Path.{_≡_};
-ghost use Prim.Native.Nat.{_+_, _≤_, _<_};
-ghost use lib.ListN.{length, take, drop, replicate};
+ghost use Prim.Native.Nat.{_≤_};
+ghost use lib.ListN.{length};
 ghost use Rattle.bench.specs.Makes.{filled, memoryMade, mapMade, registerAt, madeFrom, cardMade, madeWorld, makeText, makeSaid};
 ghost use Rattle.lines.specs.Writing.{Wrote};
-
-// Every byte made one value.
-pub fn fill(bytes: &mut [u8], value: u8)
-    ensures { λ _. ⌜ now (bytes .exit) ≡ replicate (length (now (bytes .entry))) value ⌝ }
-{
-    let mut i: usize = 0;
-    while i < bytes.len() {
-        bytes[i] = value;
-        i += 1;
-    }
-}
 
 // The first bytes of a memory, as far as it has them, made one value.
 fn fill_front(n: usize, value: u8, memory: &mut [u8])

@@ -4,12 +4,12 @@
 use crate::Said;
 use crate::World;
 use crate::calls::space;
-use crate::make::fill;
 use crate::text::refused;
 use crate::text::refused_call;
 use crate::text::say_word;
 use crate::worlds::goes_on;
 use base::Written;
+use base::fill;
 use lines::parts::part;
 use lines::text::say;
 use script::Wiring;

@@ -19,7 +19,7 @@ use status::Fault;
 use tags::Tagging;
 ghost use mathlib.Core.Path.{_≡_};
 ghost use Rattle.command.specs.Answers.{responseOf, registerSent, sentOf, leftOf, answered, silent};
-ghost use Rattle.command.specs.Command.{damagedLink, resetTold, concluded, takenOf, movedBy, commandOf};
+ghost use Rattle.command.specs.Command.{damagedLink, resetTold, concluded, takenOf, commandOf};
 
 // What a command meets at a card beside the link: the OCR, the size in protection groups, the lock
 // flag, and whether the card would win the line in CMD2.

@@ -16,7 +16,6 @@ use tags::ToErase;
 ghost use mathlib.Core.Path.{_≡_};
 ghost use Rattle.command.specs.Arguments.{lengthFault, readFault, writeFault, groupFault, addressFault, argumentFault};
 ghost use Rattle.command.specs.Obey.{dropsTags, passesLock, eraseTagging, taggingOf, judgedOf, stateAt, awaitedBy, addressAfter, lengthAfter, obeyed, changeOf};
-ghost use Rattle.record.specs.Record.{sizeOf, lengthRead};
 
 // Whether a command other than the erase commands drops tags.
 pub fn drops_tags(index: u8) -> bool

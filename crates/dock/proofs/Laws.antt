@@ -4,10 +4,10 @@
 --   fronted-length   a copy over the front keeps the length
 --   closed        15 bytes copied to the front of 16, and the last byte set: the register of the 15
 -- Assumes nothing.
-use mathlib.Core.Path.{_≡_, refl, sym, ap, _∙_}
+use mathlib.Core.Path.{_≡_, ap, _∙_}
 use mathlib.Core.Bool.{true, false}
 use mathlib.Core.List.{List, [], _∷_, _++_}
-use Prim.Native.Nat.{ℕ, _+_, _-_, _≤_, _<_, min}
+use Prim.Native.Nat.{ℕ, _+_, _-_, _≤_, _<_}
 use native.Mathlib.Omega.{arith}
 use borrow.Author.Tests.{ltb-true}
 use lib.Dec.{ltb}
@@ -15,7 +15,6 @@ use lib.ListN.{length, take, drop, replicate, set, length-append, length-take, l
 use lib.Seq.{set-at}
 use Rattle.base.proofs.Cases.{cases}
 use Rattle.bus.specs.Bus.{most, countOf, addedTo}
-use Rattle.bus.specs.declared.Adding.{Adding}
 use Rattle.bus.specs.declared.Adding.the-variants.{Place}
 use Rattle.bus.specs.declared.Bus.{Bus}
 use Rattle.lines.proofs.Writing.{fits-front}

@@ -2,7 +2,7 @@
 -- Assumes nothing.
 use mathlib.Core.List.{List, [], _∷_, _++_}
 use Prim.Native.Nat.{ℕ}
-use lib.ListN.{length, replicate}
+use lib.ListN.{replicate}
 use Rattle.lock.specs.Passwords.{noPassword}
 use Rattle.record.specs.Making.{madeOf}
 use Rattle.record.specs.Power.{freshLink}

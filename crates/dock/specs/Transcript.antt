@@ -1,11 +1,10 @@
 -- A whole script, bytes in and text out: the lines of its records, one after the other, until one stops.
 -- Assumes nothing.
-use mathlib.Core.Bool.{Bool, true, false}
+use mathlib.Core.Bool.{true, false}
 use mathlib.Core.List.{List, [], _++_}
 use Prim.Native.Nat.{ℕ, zero, suc}
 use lib.ListN.{length, drop}
 use Rattle.dock.specs.Record.{freshWorld, roomy, textOf, saidOf}
-use Rattle.dock.specs.declared.Said.{Said}
 use Rattle.dock.specs.declared.World.{World}
 
 -- at most n records of a script, on this bus

@@ -14,7 +14,7 @@ ghost use Prim.Native.Nat.{_≤_};
 ghost use lib.ListN.{length};
 ghost use Rattle.dock.specs.Cards.{cardOf};
 ghost use Rattle.dock.specs.Printing.{stopText};
-ghost use Rattle.dock.specs.Record.{following, ended, goneOn, cardText, cardSaid, frameText, frameSaid, askedText, askedSaid};
+ghost use Rattle.dock.specs.Record.{following, ended, cardText, cardSaid, frameText, frameSaid, askedText, askedSaid};
 ghost use Rattle.lines.specs.Writing.{Wrote};
 
 // The number of the next frame. Where a 64-bit number has no next it stays.

@@ -1,20 +1,11 @@
 // Parts of bytes, as far as there are any: whatever places come in, nothing is asked of them.
 //
-// Offers: `least`, `part`, `front`.
+// Offers: `part`, `front`.
+use base::least;
 ghost use mathlib.Core.Path.{_≡_};
-ghost use Prim.Native.Nat.{_≤_, min};
+ghost use Prim.Native.Nat.{_≤_};
 ghost use lib.ListN.{length, take, drop};
 ghost use Rattle.lines.specs.Writing.{fronted};
-
-// The smaller of two numbers.
-pub fn least(a: usize, b: usize) -> usize
-    ensures answer { λ r. ⌜ r ≡ min a b ⌝ }
-{
-    if a < b {
-        return a;
-    }
-    b
-}
 
 // At most `n` bytes from a place on: as many as there are.
 pub fn part(bytes: &[u8], from: usize, n: usize) -> &[u8]

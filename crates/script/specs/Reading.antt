@@ -1,7 +1,7 @@
 -- A script: "A record is one byte of kind, then a body", and "All numbers in a script are high byte first". What the record at the front of
 -- a script asks for.
 -- Assumes nothing.
-use mathlib.Core.Bool.{Bool, true, false}
+use mathlib.Core.Bool.{Bool}
 use mathlib.Core.List.{List}
 use Prim.Native.Nat.{ℕ, _+_, _*_}
 use lib.Dec.{eqb, leb}

@@ -4,13 +4,15 @@
 //
 // Offers: `size_allowed`, `map_right`, `lent_right`; `read_part`, `write_sector`, `erase`,
 // `fill_all`; `protected`, `protect`, `protection_bits`, `clear_map`.
+use base::fill;
+use base::least;
 use tags::Kind;
 use tags::Range;
 use tags::Tags;
 ghost use mathlib.Core.Path.{_≡_};
 ghost use mathlib.Core.Bool.{_||_};
-ghost use Prim.Native.Nat.{_+_, _%_, _<_, _≤_, min};
-ghost use lib.ListN.{length, replicate};
+ghost use Prim.Native.Nat.{_+_, _%_, _<_, _≤_};
+ghost use lib.ListN.{length};
 ghost use lib.Seq.{paste};
 ghost use Rattle.base.specs.Choice.{pick};
 ghost use Rattle.store.specs.Erase.{erasedSector, Spans, spared, sectorErased, erased, anySpared};
@@ -124,17 +126,6 @@ pub fn protection_bits(map: &[u8], group: u32) -> u32
     bits
 }
 
-// Every byte made one value.
-fn fill(bytes: &mut [u8], value: u8)
-    ensures { λ _. ⌜ now (bytes .exit) ≡ replicate (length (now (bytes .entry))) value ⌝ }
-{
-    let mut i: usize = 0;
-    while i < bytes.len() {
-        bytes[i] = value;
-        i += 1;
-    }
-}
-
 // Every byte of the memory erased, protected or not.
 pub fn fill_all(memory: &mut [u8])
     ensures memory { λ _. ⌜ contents (now (memory .exit)) ≡ allErased (contents (now (memory .entry))) ⌝ }
@@ -229,13 +220,6 @@ fn reach(tags: Tags) -> Span
             },
         },
     }
-}
-
-// The smaller of two.
-fn least(a: usize, b: usize) -> usize
-    ensures { λ r. ⌜ r ≡ min a b ⌝ }
-{
-    if a < b { a } else { b }
 }
 
 // Whether one of two holds.

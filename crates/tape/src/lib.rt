@@ -6,9 +6,9 @@
 // is neither stands between bytes.
 //
 // Offers: `input`, `named`; `behind`, `show`.
+use base::least;
 use libc::STDIN_FILENO;
 use libc::STDOUT_FILENO;
-use lines::parts::least;
 use lines::parts::part;
 ghost use mathlib.Core.Path.{_≡_};
 ghost use Prim.Native.Nat.{_+_, _≤_, min};

@@ -16,9 +16,12 @@ returns c =
 returns-2 : tie.Need-returns-2
 unfolding saidOf memoryAfter mapAfter textOf
 returns-2 c =
-    let t = le-leb _ _ (c .before .before .before .before .before .before .before .before .before .before .before .if1 .left) in
-    let n = c .before .before .before .before .before .before .before .before .before .before .read .ensures in
-    let d = c .before .before .before .before .before .before .obey .ensures in
+    let at-obey = c .before .before .before .before .before .before in
+    let at-read = at-obey .before .before .before .before in
+    let at-if1 = at-read .before in
+    let t = le-leb _ _ (at-if1 .if1 .left) in
+    let n = at-read .read .ensures in
+    let d = at-obey .obey .ensures in
     (rw (t, ← n) (d .0), (rw (t, ← n) (d .1 .0), (rw (t, ← n) (d .1 .1 .0), rw (t, ← n) (wrote-at (d .1 .1 .1)))))
 
 pub record-spec : {M : Type 1} → statement M

@@ -18,7 +18,7 @@ use Rattle.moves.proofs.Spans.{told}
 use Rattle.moves.proofs.legal_moves.Statement.{statement}
 use Rattle.moves.proofs.legal_moves.Tie as tie
 use Rattle.moves.specs.Moves.{rowNumber, moveOf}
-use Rattle.moves.specs.Table.{meantBy, entryOf, Ruled}
+use Rattle.moves.specs.Table.{meantBy, Ruled}
 use Rattle.moves.specs.declared.Row.{Row}
 use Rattle.moves.specs.declared.table.Entry.{Entry}
 use Rattle.moves.specs.declared.table.Entry.the-variants as entry

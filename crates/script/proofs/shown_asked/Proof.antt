@@ -28,7 +28,12 @@ returns-5 c = simp (c .write-block-asked .ensures, eq-eqb _ _ (c .before .if5 .t
 
 returns-6 : tie.Need-returns-6
 unfolding shownAsked
-returns-6 c = simp (c .counted-asked .ensures, c .before .two .ensures, eq-eqb _ _ (c .before .before .if6 .taken), ne-eqb _ _ (c .before .before .before .if5 .left), ne-eqb _ _ (c .before .before .before .before .if4 .left), ne-eqb _ _ (c .before .before .before .before .before .if3 .left), ne-eqb _ _ (c .before .before .before .before .before .before .if2 .left), ne-eqb _ _ (c .before .before .before .before .before .before .before .if1 .left))
+returns-6 c =
+    let at-if4 = c .before .before .before .before in
+    let at-if3 = at-if4 .before in
+    let at-if2 = at-if3 .before in
+    let at-if1 = at-if2 .before in
+    simp (c .counted-asked .ensures, c .before .two .ensures, eq-eqb _ _ (c .before .before .if6 .taken), ne-eqb _ _ (c .before .before .before .if5 .left), ne-eqb _ _ (at-if4 .if4 .left), ne-eqb _ _ (at-if3 .if3 .left), ne-eqb _ _ (at-if2 .if2 .left), ne-eqb _ _ (at-if1 .if1 .left))
 
 returns-7 : tie.Need-returns-7
 unfolding shownAsked

@@ -11,28 +11,39 @@ use Rattle.bench.proofs.calls.call_into.Statement.{statement}
 use Rattle.bench.proofs.calls.call_into.Tie as tie
 
 tell-requires : tie.Need-tell-requires
-tell-requires c κs = (c .before .before .before .before .before .before .before .before .before .before .before .before .before .before .before .before .before .before .before .before .before .pre .0, omega (arith, c .before .before .before .before .before .before .before .before .before .before .before .before .before .before .before .before .before .before .before .before .before .pre .1, c .before .before .before .before .before .before .before .before .lent-step .kept .1 .1 .1 .1 .1 .0, c .before .before .before .before .before .before .before .before .before .before .before .before .before .before .fill .kept .0))
+tell-requires c κs =
+    let at-lent-step = c .before .before .before .before .before .before .before .before in
+    let at-fill = at-lent-step .before .before .before .before .before .before in
+    let at-start = at-fill .before .before .before .before .before .before .before in
+    (at-start .pre .0, omega (arith, at-start .pre .1, at-lent-step .lent-step .kept .1 .1 .1 .1 .1 .0, at-fill .fill .kept .0))
 
 same-length-3 : tie.Need-same-length-3
-same-length-3 c = c .before .before .before .before .before .before .before .before .before .before .before .lent-step .kept .1 .1 .1 .1 .1 .0 ∙ c .before .before .before .before .before .before .before .before .before .before .before .before .before .before .before .before .before .fill .kept .0
+same-length-3 c =
+    let at-lent-step = c .before .before .before .before .before .before .before .before .before .before .before in
+    let at-fill = at-lent-step .before .before .before .before .before .before in
+    at-lent-step .lent-step .kept .1 .1 .1 .1 .1 .0 ∙ at-fill .fill .kept .0
 
 returns : tie.Need-returns
 returns c =
-    let a = c .before .before .before .before .before .before .before .before .before .before .before .before .before .before .before .before .before .before .before .before .before .before .before .before .args in
-    let d = c .before .before .before .before .before .before .before .before .before .before .before .lent-step in
-    let o = c .before .before .before .before .before .before .before .before .before .before .before .before .before .before .before .before .before .fill .last .0 in
+    let at-tell = c .before .before in
+    let at-lent-step = at-tell .before .before .before .before .before .before .before .before .before in
+    let at-fill = at-lent-step .before .before .before .before .before .before in
+    let at-start = at-fill .before .before .before .before .before .before .before in
+    let a = at-start .args in
+    let d = at-lent-step .lent-step in
+    let o = at-fill .fill .last .0 in
     let q = d .last .1 .1 .1 .1 .1 .0 in
     let n = length (now (a .output)) in
     let input = now (a .input) in
     let memory = now (a .memory) in
     let map = now (a .map) in
-    let t = c .before .before .tell .ensures in (
-      told-left (a .world) (a .call) input memory map o q n (d .result) (c .before .before .before .before .before .before .before .before .before .before .before .before .before .before .before .before .before .fill .ensures) (d .ensures .0) (d .ensures .1 .1 .1) (a .used) (c .before .before .tell .result) (t .0),
+    let t = at-tell .tell .ensures in (
+      told-left (a .world) (a .call) input memory map o q n (d .result) (at-fill .fill .ensures) (d .ensures .0) (d .ensures .1 .1 .1) (a .used) (at-tell .tell .result) (t .0),
       (
         d .ensures .1 .0,
         (
           d .ensures .1 .1 .0,
-          wrote-as (told-text (a .world) (a .call) input memory map o q n (d .result) (c .before .before .before .before .before .before .before .before .before .before .before .before .before .before .before .before .before .fill .ensures) (d .ensures .0) (d .ensures .1 .1 .1)) (t .1),
+          wrote-as (told-text (a .world) (a .call) input memory map o q n (d .result) (at-fill .fill .ensures) (d .ensures .0) (d .ensures .1 .1 .1)) (t .1),
         ),
       ),
     )

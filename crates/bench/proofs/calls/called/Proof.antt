@@ -9,14 +9,21 @@ use Rattle.bench.proofs.calls.called.Tie as tie
 
 returns : tie.Need-returns
 returns c =
-    let a = c .before .before .before .before .before .before .before .before .before .before .before .before .before .before .before .before .before .before .before .before .before .args in
-    let d = c .before .before .before .before .before .before .before .call-into in
-    let n = room-length (c .before .before .before .before .before .before .before .before .before .before .before .before .space .result) (c .before .before .before .before .before .before .before .before .before .before .before .before .before .room-of .result) _ (c .before .before .before .before .before .before .before .before .before .before .before .before .space .ensures) (c .before .before .before .before .before .before .before .before .before .before .before .before .before .room-of .ensures .0) (c .before .before .before .before .before .before .before .before .before .before .before .before .before .room-of .ensures .1) in
-    let ec = c .before .before .before .before .before .before .before .before .before .before .before .before .before .before .before .before .called-by .ensures in
-    let ei = c .before .before .before .before .before .before .before .before .before .before .before .before .before .before .before .input-of .ensures in
+    let at-call-into = c .before .before .before .before .before .before .before in
+    let at-space = at-call-into .before .before .before .before .before in
+    let at-room-of = at-space .before in
+    let at-used-by = at-room-of .before in
+    let at-input-of = at-used-by .before in
+    let at-called-by = at-input-of .before in
+    let at-start = at-called-by .before .before .before .before .before in
+    let a = at-start .args in
+    let d = at-call-into .call-into in
+    let n = room-length (at-space .space .result) (at-room-of .room-of .result) _ (at-space .space .ensures) (at-room-of .room-of .ensures .0) (at-room-of .room-of .ensures .1) in
+    let ec = at-called-by .called-by .ensures in
+    let ei = at-input-of .input-of .ensures in
     let memory = now (a .memory) in
     let map = now (a .map) in (
-      called-said (a .world) _ _ _ _ memory map ec ei _ _ _ _ (d .result) (c .before .before .before .before .before .before .before .before .before .before .before .before .before .before .used-by .ensures) n (d .ensures .0),
+      called-said (a .world) _ _ _ _ memory map ec ei _ _ _ _ (d .result) (at-used-by .used-by .ensures) n (d .ensures .0),
       (
         called-memory (a .world) _ _ _ _ memory map ec ei _ (d .ensures .1 .0),
         (

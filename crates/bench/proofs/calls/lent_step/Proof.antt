@@ -8,12 +8,16 @@ use Rattle.bench.proofs.calls.lent_step.Tie as tie
 
 returns : tie.Need-returns
 returns c =
-    let s = c .before .before .before .before .before .before .step in
-    let a = c .before .before .before .before .before .before .before .before .before .before .before .before .before .before .before .before .before .before .args in
-    let k = c .before .before .before .before .before .before .before .before .before .before .before .before .least .result in
-    let j = c .before .before .before .before .before .before .before .before .before .before .least2 .result in
-    let ek = c .before .before .before .before .before .before .before .before .before .before .before .before .least .ensures in
-    let ej = c .before .before .before .before .before .before .before .before .before .before .least2 .ensures in
+    let at-step = c .before .before .before .before .before .before in
+    let at-least2 = at-step .before .before .before .before in
+    let at-least = at-least2 .before .before in
+    let at-start = at-least .before .before .before .before .before .before in
+    let s = at-step .step in
+    let a = at-start .args in
+    let k = at-least .least .result in
+    let j = at-least2 .least2 .result in
+    let ek = at-least .least .ensures in
+    let ej = at-least2 .least2 .ensures in
     let input = now (a .input) in
     let memory = now (a .memory) in
     let map = now (a .map) in

@@ -12,22 +12,29 @@ use Rattle.bench.proofs.calls.sent_line.Tie as tie
 returns : tie.Need-returns
 unfolding sentText
 returns c =
-    let d = c .before .before .before .before .before .before .before .before .before .before .write-sent in
-    let a = c .before .before .before .before .before .before .before .before .before .before .before .before .before .args in
+    let at-part = c .before .before .before .before in
+    let at-written = at-part .before .before .before in
+    let at-write-sent = at-written .before .before .before in
+    let at-start = at-write-sent .before .before .before in
+    let d = at-write-sent .write-sent in
+    let a = at-start .args in
     wrote-as
-    (ap (shownText (a .count)) (c .before .before .before .before .part .ensures .0)
-    ∙ sent-text (a .count) (a .registers) (a .sent) (replicate 17 0) (d .last .1 .1 .0) (d .result) (d .ensures .0) (c .before .before .before .before .before .before .before .written .given .0 .0)
-    (c .before .before .before .before .before .before .before .written .given .1) (d .ensures .1))
+    (ap (shownText (a .count)) (at-part .part .ensures .0)
+    ∙ sent-text (a .count) (a .registers) (a .sent) (replicate 17 0) (d .last .1 .1 .0) (d .result) (d .ensures .0) (at-written .written .given .0 .0)
+    (at-written .written .given .1) (d .ensures .1))
     (c .before .before .shown .ensures)
 
 returns-2 : tie.Need-returns-2
 unfolding sentText
 returns-2 c =
-    let d = c .before .before .before .before .before .before .before .before .write-sent in
-    let a = c .before .before .before .before .before .before .before .before .before .before .before .args in
+    let at-written2 = c .before .before .before .before .before in
+    let at-write-sent = at-written2 .before .before .before in
+    let at-start = at-write-sent .before .before .before in
+    let d = at-write-sent .write-sent in
+    let a = at-start .args in
     wrote-as
-    (unsent-text (a .count) (a .registers) (a .sent) (replicate 17 0) (d .last .1 .1 .0) (d .result) (d .ensures .0) (c .before .before .before .before .before .written2 .given .0 .0)
-    (c .before .before .before .before .before .written2 .given .1))
+    (unsent-text (a .count) (a .registers) (a .sent) (replicate 17 0) (d .last .1 .1 .0) (d .result) (d .ensures .0) (at-written2 .written2 .given .0 .0)
+    (at-written2 .written2 .given .1))
     (c .before .before .refused-call .ensures)
 
 pub sent-line-spec : {M : Type 1} → statement M

@@ -22,9 +22,12 @@ returns-2 c =
 returns-3 : tie.Need-returns-3
 unfolding askedSaid askedMemory askedMap askedText
 returns-3 c =
-    let e = c .before .before .before .before .before .before .before .before .before .before .before .before .asked3 .given .1 in
-    let n = c .before .before .before .before .before .before .before .before .before .before .counted .ensures in
-    let d = c .before .before .before .before .before .before .carry .ensures in
+    let at-carry = c .before .before .before .before .before .before in
+    let at-counted = at-carry .before .before .before .before in
+    let at-asked3 = at-counted .before .before in
+    let e = at-asked3 .asked3 .given .1 in
+    let n = at-counted .counted .ensures in
+    let d = at-carry .carry .ensures in
     (rw (e, ← n) (d .0), (rw (e, ← n) (d .1 .0), (rw (e, ← n) (d .1 .1 .0), rw (e, ← n) (d .1 .1 .1))))
 
 pub obey-spec : {M : Type 1} → statement M

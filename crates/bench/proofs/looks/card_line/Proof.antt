@@ -9,8 +9,12 @@ use Rattle.bench.proofs.looks.card_line.Tie as tie
 returns : tie.Need-returns
 unfolding cardText
 returns c =
-    rw (← c .before .before .before .before .part .ensures .0)
-    (wrote-both (wrote-both (wrote-both (c .before .before .before .before .before .before .before .before .before .before .before .before .before .before .before .before .head .ensures .0) (c .before .before .before .before .before .before .before .before .before .before .before .before .link-text .ensures .0)) (c .before .before .before .before .before .before .before .before .flags-text .ensures .0)) (c .before .before .ending .ensures))
+    let at-part = c .before .before .before .before in
+    let at-flags-text = at-part .before .before .before .before in
+    let at-link-text = at-flags-text .before .before .before .before in
+    let at-head = at-link-text .before .before .before .before in
+    rw (← at-part .part .ensures .0)
+    (wrote-both (wrote-both (wrote-both (at-head .head .ensures .0) (at-link-text .link-text .ensures .0)) (at-flags-text .flags-text .ensures .0)) (c .before .before .ending .ensures))
 
 pub card-line-spec : {M : Type 1} → statement M
 card-line-spec =

@@ -13,9 +13,12 @@ use Rattle.bench.proofs.looks.flags_text.Tie as tie
 returns : tie.Need-returns
 unfolding flagsText
 returns c =
-    let n = c .before .before .before .before .before .before .before .before .number .ensures in
+    let at-pending = c .before .before .before .before .before in
+    let at-number = at-pending .before .before .before in
+    let at-flag = at-number .before .before in
+    let n = at-number .number .ensures in
     let h = c .before .before .hexed .ensures in (
-      wrote-both (wrote-as (ap numberText (c .before .before .before .before .before .before .before .before .before .before .flag .ensures)) (n .0)) (wrote-as (ap (λ (b : ℕ). hexText (fourBytes b)) (c .before .before .before .before .before .pending .ensures)) (h .0)),
+      wrote-both (wrote-as (ap numberText (at-flag .flag .ensures)) (n .0)) (wrote-as (ap (λ (b : ℕ). hexText (fourBytes b)) (at-pending .pending .ensures)) (h .0)),
       omega (arith, n .1, h .1),
     )
 

@@ -13,9 +13,13 @@ use Rattle.bench.proofs.looks.link_text.Tie as tie
 returns : tie.Need-returns
 unfolding linkText
 returns c =
-    let e = c .before .before .before .before .before .before .before .before .before .before .before .before .before .before .before .before .before .before .number .ensures ∙ ap numberOf (c .before .before .before .before .before .before .before .before .before .before .before .before .before .before .before .before .before .before .before .column-of .ensures) in
-    let n = c .before .before .before .before .before .before .before .before .before .before .before .before .before .before .before .before .number2 .ensures in
-    let a = c .before .before .before .before .before .before .before .before .before .hexed .ensures in
+    let at-hexed = c .before .before .before .before .before .before .before .before .before in
+    let at-number2 = at-hexed .before .before .before .before .before .before .before in
+    let at-number = at-number2 .before .before in
+    let at-column-of = at-number .before in
+    let e = at-number .number .ensures ∙ ap numberOf (at-column-of .column-of .ensures) in
+    let n = at-number2 .number2 .ensures in
+    let a = at-hexed .hexed .ensures in
     let l = c .before .before .hexed2 .ensures in
     (wrote-both (wrote-both (wrote-as (ap numberText e) (n .0)) (a .0)) (l .0), omega (arith, n .1, a .1, l .1))
 

@@ -13,9 +13,12 @@ use Rattle.bench.proofs.looks.memory_line.Tie as tie
 returns : tie.Need-returns
 unfolding memoryText
 returns c =
-    let a = c .before .before .before .before .before .before .before .before .before .before .args in
-    let e : now (c .before .before .before .before .before .part2 .result) ≡ take (a .n) (drop (a .from) (take (a .world .own .memory) (now (a .memory)))) =
-    c .before .before .before .before .before .part2 .ensures .0 ∙ ap (λ (l : List ℕ). take (a .n) (drop (a .from) l)) (c .before .before .before .before .before .before .part .ensures .0)
+    let at-part2 = c .before .before .before .before .before in
+    let at-part = at-part2 .before in
+    let at-start = at-part .before .before .before .before in
+    let a = at-start .args in
+    let e : now (at-part2 .part2 .result) ≡ take (a .n) (drop (a .from) (take (a .world .own .memory) (now (a .memory)))) =
+    at-part2 .part2 .ensures .0 ∙ ap (λ (l : List ℕ). take (a .n) (drop (a .from) l)) (at-part .part .ensures .0)
     in
     rw e at (c .before .before .say .ensures)
 

@@ -8,8 +8,11 @@ use Rattle.bench.proofs.make.fill_front.Tie as tie
 
 returns : tie.Need-returns
 returns c =
-    let a = c .before .before .before .before .before .before .args in
-    filled-is (now (a .memory)) (c .before .before .fill .last .0) (a .n) (c .before .before .before .before .least .result) (a .value) (c .before .before .before .before .least .ensures) (c .before .before .fill .ensures)
+    let at-fill = c .before .before in
+    let at-least = at-fill .before .before in
+    let at-start = at-least .before .before in
+    let a = at-start .args in
+    filled-is (now (a .memory)) (at-fill .fill .last .0) (a .n) (at-least .least .result) (a .value) (at-least .least .ensures) (at-fill .fill .ensures)
 
 pub fill-front-spec : {M : Type 1} → statement M
 fill-front-spec =

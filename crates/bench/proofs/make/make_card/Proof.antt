@@ -18,13 +18,18 @@ same-length c = c .before .before .before .before .before .before .before .befor
 returns : tie.Need-returns
 unfolding cardMade
 returns c =
-    let a = c .before .before .before .before .before .before .before .before .before .before .before .before .before .before .before .before .before .before .before .before .before .args in
+    let at-part2 = c .before .before .before .before in
+    let at-front = at-part2 .before .before .before .before .before in
+    let at-part = at-front .before .before in
+    let at-fill-front = at-part .before .before .before .before in
+    let at-start = at-fill-front .before .before .before .before .before .before in
+    let a = at-start .args in
     let m = a .making in
     let s = now (a .script) in
     let memory = now (a .memory) in
-    let f = c .before .before .before .before .before .before .before .before .before .before .before .before .before .before .before .fill-front .ensures in
-    let g = c .before .before .before .before .before .before .before .before .before .front .ensures ∙ ap (λ (l : List ℕ). fronted l (now (a .map))) (c .before .before .before .before .before .before .before .before .before .before .before .part .ensures .0) in
-    let e = ap length (c .before .before .before .before .part2 .ensures .0 ∙ ap (take (m .memory)) f) ∙ filled-length memory (m .memory) (m .fill) in
+    let f = at-fill-front .fill-front .ensures in
+    let g = at-front .front .ensures ∙ ap (λ (l : List ℕ). fronted l (now (a .map))) (at-part .part .ensures .0) in
+    let e = ap length (at-part2 .part2 .ensures .0 ∙ ap (take (m .memory)) f) ∙ filled-length memory (m .memory) (m .fill) in
     (c .made-of .ensures ∙ ap₂ (λ (k : ℕ) (l : List ℕ). madeFrom m s k l) e (c .before .part3 .ensures .0 ∙ ap (take (m .map)) g), (f, g))
 
 pub make-card-spec : {M : Type 1} → statement M

@@ -7,8 +7,10 @@ use Rattle.bench.proofs.make.make_line.Tie as tie
 
 returns : tie.Need-returns
 returns c =
-    let w = c .before .before .before .before .before .before .plain .ensures in
-    (simp (c .before .before .before .before .before .before .before .before .before .enum-told .given .1, c .goes-on .ensures, c .before .before .before .made-world .ensures, wrote-line w), rw (c .before .before .before .before .before .before .before .before .before .enum-told .given .1, c .goes-on .ensures) w)
+    let at-plain = c .before .before .before .before .before .before in
+    let at-enum-told = at-plain .before .before .before in
+    let w = at-plain .plain .ensures in
+    (simp (at-enum-told .enum-told .given .1, c .goes-on .ensures, c .before .before .before .made-world .ensures, wrote-line w), rw (at-enum-told .enum-told .given .1, c .goes-on .ensures) w)
 
 returns-2 : tie.Need-returns-2
 returns-2 c =

@@ -9,9 +9,12 @@ use Rattle.bench.proofs.wires.block_into.Tie as tie
 
 returns : tie.Need-returns
 returns c =
-    let a = c .before .before .before .before .before .before .before .before .before .before .before .before .before .before .before .before .before .args in
-    let d = c .before .before .before .before .before .before .before .before .write-block in
-    wrote-as (block-text (a .count) (now (a .payload)) _ _ _ (d .result) (c .before .before .before .before .before .before .before .before .before .before .before .before .fill .ensures) (d .ensures .0) (d .ensures .1)) (c .before .before .written-line .ensures)
+    let at-write-block = c .before .before .before .before .before .before .before .before in
+    let at-fill = at-write-block .before .before .before .before in
+    let at-start = at-fill .before .before .before .before .before in
+    let a = at-start .args in
+    let d = at-write-block .write-block in
+    wrote-as (block-text (a .count) (now (a .payload)) _ _ _ (d .result) (at-fill .fill .ensures) (d .ensures .0) (d .ensures .1)) (c .before .before .written-line .ensures)
 
 pub block-into-spec : {M : Type 1} → statement M
 block-into-spec =

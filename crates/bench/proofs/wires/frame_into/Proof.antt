@@ -8,9 +8,12 @@ use Rattle.bench.proofs.wires.frame_into.Tie as tie
 
 returns : tie.Need-returns
 returns c =
-    let a = c .before .before .before .before .before .before .before .before .before .before .before .before .before .before .before .before .args in
-    let d = c .before .before .before .before .before .before .before .before .write-command in
-    wrote-as (frame-text (a .count) (a .index) (a .argument) _ _ _ (d .result) (c .before .before .before .before .before .before .before .before .before .before .before .before .fill .ensures) (d .ensures .0) (d .ensures .1)) (c .before .before .written-line .ensures)
+    let at-write-command = c .before .before .before .before .before .before .before .before in
+    let at-fill = at-write-command .before .before .before .before in
+    let at-start = at-fill .before .before .before .before in
+    let a = at-start .args in
+    let d = at-write-command .write-command in
+    wrote-as (frame-text (a .count) (a .index) (a .argument) _ _ _ (d .result) (at-fill .fill .ensures) (d .ensures .0) (d .ensures .1)) (c .before .before .written-line .ensures)
 
 pub frame-into-spec : {M : Type 1} → statement M
 frame-into-spec =

@@ -34,8 +34,9 @@ and-requires c κs =
 returns : tie.Need-returns
 unfolding heardOf
 returns c =
-    let s = c .before .before .before .before .before .before .before .before .before in
-    let w = c .before .before .before .before .before .before .before .write-sent .ensures in
+    let at-write-sent = c .before .before .before .before .before .before .before in
+    let s = at-write-sent .before .before in
+    let w = at-write-sent .write-sent .ensures in
     let n = c .before .before .before .written .given in
     let a = s .args .registers in
     let line = s .args .heard .line in

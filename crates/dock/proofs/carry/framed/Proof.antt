@@ -10,10 +10,13 @@ use Rattle.dock.proofs.carry.framed.Tie as tie
 returns : tie.Need-returns
 unfolding frameText frameSaid
 returns c =
+    let at-frame = c .before .before .before .before .before .before in
+    let at-part = at-frame .before .before in
+    let at-next = at-part .before in
     let w = c .before .before .shown-line .ensures in
-    let n = c .before .before .before .before .before .before .before .before .before .next .ensures in
-    let p = c .before .before .before .before .before .before .before .before .part .ensures .0 in
-    let f = c .before .before .before .before .before .before .frame .ensures in
+    let n = at-next .next .ensures in
+    let p = at-part .part .ensures .0 in
+    let f = at-frame .frame .ensures in
     (rw (← n, ← p, ← f) (gone-long (wrote-line w)), rw (← n, ← p, ← f) w)
 
 pub framed-spec : {M : Type 1} → statement M

@@ -14,8 +14,12 @@ use Rattle.dock.proofs.reading.identifier.Tie as tie
 
 returns : tie.Need-returns
 returns c =
-    closed (cidBody (now (c .before .before .before .before .before .before .before .before .before .before .before .args .script))) _ _ _ (c .before .before .before .before .before .before .before .front .ensures ∙ ap (λ (l : List ℕ). fronted l (replicate 15 0)) (c .before .before .before .before .before .before .before .before .before .part .ensures .0)) (c .before .front2 .ensures)
-    (c .before .before .before .before .last-byte .ensures)
+    let at-last-byte = c .before .before .before .before in
+    let at-front = at-last-byte .before .before .before in
+    let at-part = at-front .before .before in
+    let at-start = at-part .before .before in
+    closed (cidBody (now (at-start .args .script))) _ _ _ (at-front .front .ensures ∙ ap (λ (l : List ℕ). fronted l (replicate 15 0)) (at-part .part .ensures .0)) (c .before .front2 .ensures)
+    (at-last-byte .last-byte .ensures)
 
 pub identifier-spec : {M : Type 1} → statement M
 identifier-spec =

@@ -1,6 +1,5 @@
 -- `lines::parts::part` meets its contract: the place and the number, as far as there are bytes.
 -- Assumes nothing.
-use mathlib.Core.Path.{_≡_}
 use Prim.Native.Nat.{_≤_}
 use native.Mathlib.Omega.{arith}
 use borrow.Author.Needs.{needs}

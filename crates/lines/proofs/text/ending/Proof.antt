@@ -13,7 +13,10 @@ returns c = rw (eq-eqb _ _ (c .before .before .before .before .before .if1 .take
 
 returns-2 : tie.Need-returns-2
 unfolding endText
-returns-2 c = rw (ne-eqb _ _ (c .before .before .before .before .before .before .before .before .before .if1 .left)) (wrote-both (c .before .before .before .before .before .before .before .hexed .ensures .0) (c .before .before .put2 .ensures))
+returns-2 c =
+    let at-hexed = c .before .before .before .before .before .before .before in
+    let at-if1 = at-hexed .before .before in
+    rw (ne-eqb _ _ (at-if1 .if1 .left)) (wrote-both (at-hexed .hexed .ensures .0) (c .before .before .put2 .ensures))
 
 pub ending-spec : {M : Type 1} → statement M
 ending-spec =

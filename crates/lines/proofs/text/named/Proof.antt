@@ -9,8 +9,10 @@ use Rattle.lines.proofs.text.named.Tie as tie
 returns : tie.Need-returns
 unfolding namedLine
 returns c =
-    let w = c .before .before .before .before .before .before .before .before .before .before .before .put .ensures in
-    let n = c .before .before .before .before .before .before .before .number .ensures in
+    let at-number = c .before .before .before .before .before .before .before in
+    let at-put = at-number .before .before .before .before in
+    let w = at-put .put .ensures in
+    let n = at-number .number .ensures in
     wrote-both (wrote-both w (n .0)) (c .before .before .put2 .ensures)
 
 pub named-spec : {M : Type 1} → statement M

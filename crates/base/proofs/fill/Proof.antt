@@ -1,4 +1,4 @@
--- `store::fill` meets its contract. The loop's invariant: the bytes passed have the value, and the others are as they were.
+-- `base::fill` meets its contract. The loop's invariant: the bytes passed have the value, and the others are as they were.
 -- Assumes nothing.
 use mathlib.Core.Path.{_≡_, refl, ap, _∙_}
 use mathlib.Core.List.{List, _++_, append-nil}
@@ -8,8 +8,8 @@ use borrow.Author.Fill.{fill-none, fill-more}
 use borrow.Author.Needs.{needs}
 use denote.Ref.{now}
 use lib.ListN.{length, replicate, drop, set, drop-of-length-le}
-use Rattle.store.proofs.fill.Statement.{statement}
-use Rattle.store.proofs.fill.Tie as tie
+use Rattle.base.proofs.fill.Statement.{statement}
+use Rattle.base.proofs.fill.Tie as tie
 
 abbrev Inv-loop : tie.InvT-loop
 Inv-loop bytes₀ value i₀ bytes i = (i ≤ length bytes₀) × (length bytes ≡ length bytes₀) × (bytes ≡ replicate i value ++ drop i bytes₀)
