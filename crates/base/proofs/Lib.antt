@@ -5,3 +5,4 @@ pub mod Numbers
 pub mod Output
 pub mod Span
 pub mod Table
+pub mod WrongAnswers
