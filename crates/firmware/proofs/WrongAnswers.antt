@@ -6,13 +6,34 @@
 --   done-told-as-refused   a number for what was carried out
 --   refused-told-as-done   0 for an output that is too short
 --   checked-told-as-good   0 for a block with a wrong CRC16
+--   sum-closed             the byte that closes a frame, the CRC7 and a 1, told for the CRC7
+--   sum-from-ones          a CRC16 that starts from FFFF
+--   sum-low-first          a CRC16 with its bytes swapped
+--   power-inactive         power-on that leaves the number of Inactive
+--   power-keeps-tags       power-on that leaves the number of tags
+--   worked-prg, worked-dis work done that leaves prg, or takes dis to tran
+--   refused-told-bytes     bytes told of a block that was refused
+--   sent-told-as-refused   a number for a block that went out
+--   sent-unfinished        a card that still awaits CMD30's block when it has gone out
 -- Assumes nothing.
 use mathlib.Core.Path.{_≡_}
+use mathlib.Core.List.{List, [], _∷_, _++_}
+use Prim.Native.Nat.{ℕ}
 use native.Mathlib.Omega.{arith}
+use lib.ListN.{getD, replicate}
 use Rattle.base.specs.Refusals.{by}
 use Rattle.base.specs.declared.Written.the-variants.{Bytes, Refused as NotWritten}
+use Rattle.card.specs.BlockOut.{outGood, protectionJudged, outJudged}
+use Rattle.card.specs.declared.Outcome.the-variants.{Wrote, Refused as Unsent}
+use Rattle.crc.specs.Bits.{bits}
+use Rattle.crc.specs.Crc.{divide, remainder, checkSum, crc7, crc16}
+use Rattle.crossing.specs.Record.{stateOf, tagsBy, cardOf, numbersOf}
+use Rattle.record.specs.Power.{freshLink, poweredOn, worked}
+use Rattle.record.specs.declared.Card.{Card}
+use Rattle.store.specs.Map.{entriesRight}
 use Rattle.wire.specs.declared.Checked.the-variants.{Refused as NotChecked}
 use Rattle.wire.specs.declared.Frame.the-variants.{Command, Refused}
+use Rattle.firmware.specs.Answers.{outcomeNumber, wroteOf}
 use Rattle.firmware.specs.Numbers.{writtenNumber, checkedNumber, indexRead, argumentRead}
 
 index-not-told : indexRead (Command 17 0x12345) 0 ≡ 0 → ⊥
@@ -32,3 +53,51 @@ refused-told-as-done e = omega arith
 
 checked-told-as-good : checkedNumber (NotChecked (by 17)) ≡ 0 → ⊥
 checked-told-as-good e = omega arith
+
+-- ---- the sums
+sum-closed : crc7 (0x40 ∷ replicate 4 0) ≡ 0x95 → ⊥
+unfolding crc7 checkSum remainder divide bits
+sum-closed e = omega arith
+
+sum-from-ones : crc16 [] ≡ 0xFFFF → ⊥
+unfolding crc16 checkSum remainder divide bits
+sum-from-ones e = omega arith
+
+sum-low-first : crc16 (0x80 ∷ []) ≡ 0x8891 → ⊥
+unfolding crc16 checkSum remainder divide bits
+sum-low-first e = omega arith
+
+-- ---- a card
+-- the card of one protection group whose first number, its state, is this one, with a start of sectors among its tags
+abbrev card : ℕ → Card
+card state = cardOf (state ∷ 0 ∷ 7 ∷ 16 ∷ 0 ∷ 1 ∷ 3 ∷ 0 ∷ 0 ∷ 0 ∷ 1 ∷ 0 ∷ []) (replicate 16 0) (replicate 16 0) (replicate 16 0)
+
+-- a number of a record, by its place
+abbrev at : ℕ → Card → ℕ
+at place next = getD (numbersOf next) place 0
+
+power-inactive : at 0 (poweredOn (card 13)) ≡ 13 → ⊥
+unfolding numbersOf poweredOn freshLink
+power-inactive e = omega arith
+
+power-keeps-tags : at 5 (poweredOn (card 4)) ≡ 1 → ⊥
+unfolding numbersOf poweredOn freshLink
+power-keeps-tags e = omega arith
+
+worked-prg : at 0 (worked (card 11)) ≡ 11 → ⊥
+unfolding numbersOf worked cardOf stateOf
+worked-prg e = omega arith
+
+worked-dis : at 0 (worked (card 12)) ≡ 4 → ⊥
+unfolding numbersOf worked cardOf stateOf
+worked-dis e = omega arith
+
+refused-told-bytes : wroteOf (Unsent (by 18)) ≡ 514 → ⊥
+refused-told-bytes e = omega arith
+
+sent-told-as-refused : outcomeNumber (Wrote 6) ≡ 6 → ⊥
+sent-told-as-refused e = omega arith
+
+sent-unfinished : at 0 (outJudged (card 7) 8192 (0 ∷ []) 6 .stepped .card) ≡ 7 → ⊥
+unfolding numbersOf outJudged protectionJudged outGood cardOf stateOf entriesRight
+sent-unfinished e = omega arith

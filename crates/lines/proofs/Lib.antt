@@ -2,3 +2,4 @@ pub mod Digits
 pub mod Pairs
 pub mod Shown
 pub mod Writing
+pub mod WrongAnswers

@@ -10,3 +10,4 @@ pub mod Reach
 pub mod Repeats
 pub mod Unread
 pub mod WrongBuses
+pub mod WrongAnswers

@@ -6,6 +6,7 @@
 --   cut-before-big   `cut` for a length that is too big, where the bytes are missing too
 --   ended-cut        `cut` for a script that is at its end
 --   low-byte-first   a number read from its low byte on
+--   past-end         the last byte read again behind the end of a script
 -- Assumes nothing.
 use mathlib.Core.Bool.{true, false}
 use mathlib.Core.List.{[], _∷_}
@@ -13,7 +14,7 @@ use mathlib.Core.Path.{_≡_}
 use Prim.Native.Nat.{ℕ}
 use native.Mathlib.Omega.{arith}
 use lib.ListN.{replicate}
-use Rattle.script.specs.Reading.{two, four, frameAsked, countedAsked, shownAsked, moreAsked, askedOf}
+use Rattle.script.specs.Reading.{byteAt, two, four, frameAsked, countedAsked, shownAsked, moreAsked, askedOf}
 use Rattle.script.specs.declared.Asked.the-variants.{Stop, Make, Go}
 use Rattle.script.specs.declared.Calling.the-variants.{Frame}
 use Rattle.script.specs.declared.Going.the-variants.{Call}
@@ -43,3 +44,6 @@ ended-cut e = let z : _≡_ {A = ℕ} 0 1 = cc in omega arith
 low-byte-first : four (1 ∷ 2 ∷ 3 ∷ 4 ∷ []) 0 ≡ 0x04030201 → ⊥
 unfolding four two
 low-byte-first e = omega arith
+
+past-end : byteAt (1 ∷ 2 ∷ []) 2 ≡ 2 → ⊥
+past-end e = omega arith

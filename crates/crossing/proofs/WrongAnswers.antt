@@ -1,0 +1,51 @@
+-- Wrong answers that the promises rule out, each refuted at a sample that antt computes: a call's answer is the definition, so a call
+-- that gave the wrong answer would make the two equal. (That nothing is lost is the law `crossing`.)
+--   state-14-idle      a state over 13 read as Idle
+--   locked-by-2        locked read from a number that is neither 0 nor 1
+--   tags-by-5          tags read from a number over 4
+--   address-refused    an address wider than 16 bits read as none, where its low bits count
+--   inactive-as-idle   Inactive told with the number of Idle
+--   unlocked-as-1      an unlocked record told as locked
+-- Assumes nothing.
+use mathlib.Core.Path.{_≡_}
+use mathlib.Core.Bool.{true}
+use mathlib.Core.List.{[], _∷_}
+use native.Mathlib.Omega.{arith}
+use lib.ListN.{getD, replicate}
+use Rattle.base.proofs.Cases.{clash, never}
+use Rattle.lock.specs.Passwords.{holding}
+use Rattle.record.specs.Making.{refusedMake}
+use Rattle.record.specs.declared.Card.{Card}
+use Rattle.states.specs.declared.State.the-variants.{Idle}
+use Rattle.tags.specs.declared.Kind.the-variants.{Groups}
+use Rattle.tags.specs.declared.Range.the-variants.{Full}
+use Rattle.crossing.specs.Record.{stateOf, tagsBy, cardOf, numbersOf}
+
+-- numbers that no record has: a state of 14, an address of 17 bits, tags of 5, a flag of 2
+abbrev odd : Card
+odd =
+    cardOf (14 ∷ 0 ∷ 0x10007 ∷ 512 ∷ 0 ∷ 5 ∷ 3 ∷ 4 ∷ 2 ∷ 0 ∷ 1 ∷ 0x00FF8000 ∷ []) (replicate 16 0) (replicate 16 0) (replicate 16 0)
+
+state-14-idle : odd .link .state ≡ Idle → ⊥
+unfolding cardOf stateOf
+state-14-idle e = clash cc
+
+locked-by-2 : odd .lock .locked ≡ true → ⊥
+unfolding cardOf
+locked-by-2 e = never e
+
+tags-by-5 : odd .link .tags .range ≡ Full Groups 3 4 → ⊥
+unfolding cardOf tagsBy
+tags-by-5 e = clash cc
+
+address-refused : odd .link .address ≡ 0 → ⊥
+unfolding cardOf
+address-refused e = omega arith
+
+inactive-as-idle : getD (numbersOf refusedMake) 0 0 ≡ 0 → ⊥
+unfolding numbersOf refusedMake
+inactive-as-idle e = omega arith
+
+unlocked-as-1 : getD (numbersOf refusedMake) 8 0 ≡ 1 → ⊥
+unfolding numbersOf refusedMake holding
+unlocked-as-1 e = omega arith
