@@ -35,7 +35,7 @@ returns-3 : tie.Need-returns-3
 returns-3 c =
     let h = c .before .before .before in
     let a = h .before .before .before .before .args in
-    sym (presented-other (a .lock) (now (a .payload)) (h .held .result) (h .held .ensures .0) (is-whole (h .before)) (c .before .before .if2 .left) (c .if3 .taken))
+    sym (presented-other (a .lock) (now (a .payload)) (h .held .result) (h .held .ensures .0) (is-whole (h .before)) (c .before .before .if2 .left) (λ e. omega (arith, c .if3 .taken, e)))
 
 returns-4 : tie.Need-returns-4
 returns-4 c =
@@ -43,7 +43,7 @@ returns-4 c =
     let h = e .before .before .before in
     let a = h .before .before .before .before .args in
     c .matches .ensures
-    ∙ sym (presented-is (a .lock) (now (a .payload)) (h .held .result) (h .held .ensures .0) (is-whole (h .before)) (e .before .before .if2 .left) (e .if3 .left))
+    ∙ sym (presented-is (a .lock) (now (a .payload)) (h .held .result) (h .held .ensures .0) (is-whole (h .before)) (e .before .before .if2 .left) (omega (arith, e .if3 .left)))
 
 pub presented-spec : {M : Type 1} → statement M
 presented-spec =
