@@ -87,7 +87,10 @@ impl Cover {
                 None => self.watch_frame(frame, &line, &before, &bench.card, &map),
             },
             Record::BlockIn(block) => self.watch_block_in(block, &line, &before),
-            Record::BlockOut(_) => self.watch_block("block_out", &line, &before),
+            Record::BlockOut(_) => {
+                self.watch_block("block_out", &line, &before);
+                self.watch_protection(&line, &before, &map);
+            }
             Record::WorkDone => self.met(format!("call work-done in {state}")),
             Record::PowerOn => {
                 self.met(format!("call power-on in {state}"));
@@ -116,6 +119,14 @@ impl Cover {
         match refusal(line) {
             Some(number @ ("12" | "15")) => self.met(format!("refusal {call} {number} in {}", name(before.state))),
             _ => self.met(told(work(before.state), line)),
+        }
+    }
+
+    /// The protection bits that went out: the highest of the 32 is the group 31 places on.
+    fn watch_protection(&mut self, line: &str, before: &Card, map: &[u8]) {
+        if let (State::Data(Sending::Protection(address)), None) = (before.state, refusal(line)) {
+            let highest = map.get((address / PROTECTION_GROUP) as usize + 31);
+            self.met_if(highest == Some(&1), "border CMD30 shows its highest bit");
         }
     }
 

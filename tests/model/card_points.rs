@@ -191,6 +191,7 @@ const NAMED: &str = "
     border write of the last sector
     border write begins in memory and ends past it
     border write begins at the end
+    border CMD30 shows its highest bit
     stop at the end
     stop bad kind
     stop cut
