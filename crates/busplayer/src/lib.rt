@@ -1,5 +1,6 @@
-// A script of `busline` records played: each record carried out by `dock`, and its line written to
-// standard output. No contract can say what is written; all that is said of a line is said in `dock`.
+// A script of `busline` records played: each record carried out by `dock`, and its line handed over to
+// standard output. What arrives there no contract can say; how many bytes were handed over is
+// promised, and what they are `dock` promises line by line.
 //
 // Offers: `play`.
 use dock::Said;
@@ -7,34 +8,47 @@ use dock::World;
 use lines::parts::part;
 use tape::behind;
 use tape::show;
-ghost use Prim.Native.Nat.{_≤_};
-ghost use lib.ListN.{length};
+ghost use mathlib.Core.Path.{_≡_};
+ghost use lib.ListN.{length, drop};
+ghost use Rattle.dock.specs.Record.{textOf, saidOf};
+ghost use Rattle.dock.specs.Transcript.{transcript};
+ghost use Rattle.tape.specs.Handing.{handedOver};
 
-// Record by record. Each takes a byte or more, so a script has as many turns as bytes; the answer is
-// how many were left.
+// What a record leaves, and how many bytes of its line were handed over.
+struct Turned {
+    said: Said,
+    shown: usize,
+}
+
+// Record by record, to the end of the script or to a record at which it stops: how many bytes were
+// handed over.
 pub fn play(script: &[u8]) -> usize
-    ensures within { λ r. ⌜ r ≤ length (now (script .entry)) ⌝ }
+    ensures answer { λ r. ⌜ r ≡ handedOver (transcript (now (script .entry))) ⌝ }
 {
     let mut out = [0u8; 64];
     let mut world = dock::fresh();
     let mut at: usize = 0;
-    let mut left = script.len();
-    while 0 < left {
-        let said = turn(world, script, at, &mut out);
+    let mut total: usize = 0;
+    while at < script.len() {
+        let turned = turn(world, script, at, &mut out);
+        let said = turned.said;
+        total = behind(total, turned.shown, 18446744073709551615);
         if said.stops {
-            return left;
+            return total;
         }
         at = behind(at, said.used, script.len());
         world = said.world;
-        left -= 1;
     }
-    left
+    total
 }
 
 // One record, from a place of the script on, and its line.
-fn turn(world: World, script: &[u8], at: usize, out: &mut [u8]) -> Said {
+fn turn(world: World, script: &[u8], at: usize, out: &mut [u8]) -> Turned
+    ensures said { λ r. ⌜ r .said ≡ saidOf world (drop at (now (script .entry))) (length (now (out .entry))) ⌝ }
+    ensures shown { λ r. ⌜ r .shown ≡ length (textOf world (drop at (now (script .entry))) (length (now (out .entry)))) ⌝ }
+{
     let rest = part(script, at, script.len());
     let said = dock::record(world, rest, out);
-    show(out, said.wrote);
-    said
+    let shown = show(out, said.wrote);
+    Turned { said, shown }
 }

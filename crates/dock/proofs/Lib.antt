@@ -1,3 +1,4 @@
+pub mod Enough
 pub mod Laws
 pub mod Made
 pub mod WrongAnswers

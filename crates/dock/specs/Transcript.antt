@@ -14,6 +14,6 @@ records (suc n) w s =
     textOf w s roomy
     ++ elim (saidOf w s roomy .stops) [ true ↦ [] | false ↦ records n (saidOf w s roomy .world) (drop (saidOf w s roomy .used) s) ]
 
--- each record takes a byte or more, and the end of the script is one too
+-- each record takes a byte or more, so there are no more records than bytes, and more turns would print nothing: law `enough`
 unfoldable pub transcript : List ℕ → List ℕ
-transcript s = records (suc (length s)) freshWorld s
+transcript s = records (length s) freshWorld s
