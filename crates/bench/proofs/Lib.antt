@@ -1,3 +1,4 @@
+pub mod Enough
 pub mod Lending
 pub mod Sending
 pub mod WrongAnswers

@@ -22,6 +22,7 @@ records (suc n) w s memory map =
     (records n (saidOf w s memory map roomy .world) (drop (saidOf w s memory map roomy .used) s) (memoryAfter w s memory map roomy)
     (mapAfter w s memory map roomy))
 
--- the buffers that hold the largest lent memory and map, and the end of the script: each record uses a byte or more
+-- from buffers of zeros that hold the largest lent memory and map. Each record takes a byte or more, so there are no more records than bytes,
+-- and more turns would print nothing: law `enough`
 unfoldable pub transcript : List ℕ → List ℕ
-transcript s = records (suc (length s)) freshWorld s (replicate 528384 0) (replicate 256 0)
+transcript s = records (length s) freshWorld s (replicate 528384 0) (replicate 256 0)

@@ -1,6 +1,7 @@
 // What the programs that play scripts share: a script read from standard input, or from a file that
-// an argument names; the place behind a record; a line written to standard output. No contract can
-// say what is read or written: what is said of a script is said in `bench` and `dock`.
+// an argument names; the place behind a record; a line handed over to standard output. No contract
+// can say what is read or written: what a script prints is said in `bench` and `dock`, and specs/ has
+// how many bytes of it are handed over.
 //
 // A script in a file is text: pairs of hex digits; `#` begins a comment, up to the line's end; what
 // is neither stands between bytes.

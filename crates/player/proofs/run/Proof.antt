@@ -1,18 +1,65 @@
--- `player::run` is safe and ends: each turn leaves one fewer, and every buffer as long as it was.
+-- `player::run` meets its contract: at each turn what was handed over and what is to come are the whole, and every buffer is as long as it was.
 -- Assumes nothing.
 use mathlib.Core.Path.{refl, _∙_, _≡_}
-use Prim.Native.Nat.{_≤_}
+use mathlib.Core.List.{List}
+use Prim.Native.Nat.{ℕ, _-_, _≤_}
 use borrow.Author.Needs.{needs}
+use denote.Ref.{now}
 use lib.ListN.{length}
+use Rattle.bench.specs.Transcript.{records}
+use Rattle.bench.specs.Worlds.{freshWorld}
+use Rattle.player.proofs.Playing.{Counts, counts-0, counts-end, counts-on, counts-less, counts-all}
 use Rattle.player.proofs.run.Statement.{statement}
 use Rattle.player.proofs.run.Tie as tie
+use Rattle.tape.specs.Handing.{handedOver}
+
+abbrev all : List ℕ → List ℕ → List ℕ → ℕ
+all script memory map = handedOver (records (length script) freshWorld script memory map)
 
 abbrev Inv-loop : tie.InvT-loop
-Inv-loop script memory₀ map₀ out₀ world₀ at₀ left₀ memory map out world at left =
-    (length memory ≡ length memory₀) × (length map ≡ length map₀) × (length out ≡ length out₀) × (left ≤ length script)
+Inv-loop script memory₀ map₀ out₀ world₀ at₀ total₀ memory map out world at total =
+    (length memory ≡ length memory₀)
+    × (length map ≡ length map₀)
+    × (length out ≡ length out₀)
+    × (at ≤ length script)
+    × (total ≤ 18446744073709551615)
+    × Counts (all script memory₀ map₀) script world at total memory map
 
 abbrev μ-loop : tie.MeasureT-loop
-μ-loop script memory₀ map₀ out₀ world₀ at₀ left₀ memory map out world at left = left
+μ-loop script memory₀ map₀ out₀ world₀ at₀ total₀ memory map out world at total = length script - at
+
+loop-holds : tie.Need-loop-holds Inv-loop μ-loop
+loop-holds c =
+    let a = c .before .before .before .before .before .args in
+    (refl, refl, refl, search needs, search needs, counts-0 (now (a .script)) _ (now (a .memory)) (now (a .map)) (c .fresh .ensures))
+
+returns : tie.Need-returns Inv-loop μ-loop
+returns c =
+    let a = c .before .before .before .before .before .before .before .before .before .before .before .before .before .before .before .before .before .before .before .before .args in
+    let l = c .before .before .before .before .before .before .before .before .before .before .before .before .before .before .loop in
+    let t = c .before .before .before .before .before .before .before .before .before .turn in
+    counts-end (all (now (a .script)) (now (a .memory)) (now (a .map))) (now (a .script)) (l .world) (l .memory) (l .map) (l .at) (l .total) (t .result .shown) _ _ (t .result .said) (l .inv .2 ∙ c .before .before .before .before .before .before .before .before .before .before .before .before .before .before .before .before .before .before .before .before .pre) (c .before .before .before .before .before .before .before .before .before .before .before .before .before .loop-test .taken) (t .ensures .0) (t .ensures .1 .1 .1) (c .before .behind .ensures) (l .inv .5) (c .if1 .taken)
+
+loop-less : tie.Need-loop-less Inv-loop μ-loop
+loop-less c =
+    let a = c .before .before .before .before .before .before .before .before .before .before .before .before .before .before .before .before .before .before .before .before .before .before .args in
+    let l = c .before .before .before .before .before .before .before .before .before .before .before .before .before .before .before .before .loop in
+    let t = c .before .before .before .before .before .before .before .before .before .before .before .turn in
+    counts-less (all (now (a .script)) (now (a .memory)) (now (a .map))) (now (a .script)) (l .world) (l .memory) (l .map) (l .at) (l .total) (t .result .shown) _ _ (t .result .said) (l .inv .2 ∙ c .before .before .before .before .before .before .before .before .before .before .before .before .before .before .before .before .before .before .before .before .before .before .pre) (c .before .before .before .before .before .before .before .before .before .before .before .before .before .before .before .loop-test .taken) (t .ensures .0) (t .ensures .1 .1 .1) (c .before .before .before .behind .ensures) (l .inv .5) _ (c .before .before .if1 .left) (c .before .behind2 .ensures)
+
+loop-again : tie.Need-loop-again Inv-loop μ-loop
+loop-again c =
+    let a = c .before .before .before .before .before .before .before .before .before .before .before .before .before .before .before .before .before .before .before .before .before .before .args in
+    let l = c .before .before .before .before .before .before .before .before .before .before .before .before .before .before .before .before .loop in
+    let t = c .before .before .before .before .before .before .before .before .before .before .before .turn in
+    let on = counts-on (all (now (a .script)) (now (a .memory)) (now (a .map))) (now (a .script)) (l .world) (l .memory) (l .map) (l .at) (l .total) (t .result .shown) _ _ (t .result .said) (l .inv .2 ∙ c .before .before .before .before .before .before .before .before .before .before .before .before .before .before .before .before .before .before .before .before .before .before .pre) (c .before .before .before .before .before .before .before .before .before .before .before .before .before .before .before .loop-test .taken) (t .ensures .0) (t .ensures .1 .1 .1) (c .before .before .before .behind .ensures) (l .inv .5) _ (c .before .before .if1 .left) (c .before .behind2 .ensures) _ _ (t .ensures .1 .0) (t .ensures .1 .1 .0) in
+    (c .before .before .before .before .before .before .before .before .before .before .before .turn .kept .1 .1 .1 .0 ∙ c .before .before .before .before .before .before .before .before .before .before .before .before .before .before .before .before .loop .inv .0, c .before .before .before .before .before .before .before .before .before .before .before .turn .kept .1 .1 .1 .1 .0 ∙ c .before .before .before .before .before .before .before .before .before .before .before .before .before .before .before .before .loop .inv .1, c .before .before .before .before .before .before .before .before .before .before .before .turn .kept .1 .1 .1 .1 .1 .0 ∙ c .before .before .before .before .before .before .before .before .before .before .before .before .before .before .before .before .loop .inv .2, search needs, search needs, on)
+
+returns-2 : tie.Need-returns-2 Inv-loop μ-loop
+returns-2 c =
+    let a = c .before .before .before .before .before .before .before .args in
+    let l = c .before .loop in
+    counts-all (all (now (a .script)) (now (a .memory)) (now (a .map))) (now (a .script)) (l .world) (l .memory) (l .map) (l .at) (l .total) (c .loop-test .left) (l .inv .4) (l .inv .5)
 
 pub run-spec : {M : Type 1} → statement M
 run-spec =
@@ -21,17 +68,17 @@ run-spec =
     Inv-loop
     μ-loop
     (λ c κs. search needs)
-    (λ c. (refl, refl, refl, search needs))
+    loop-holds
     (λ c κs. search needs)
-    (λ c. c .before .before .before .before .before .before .before .turn .kept .1 .1 .1 .0 ∙ c .before .before .before .before .before .before .before .before .before .before .before .before .loop .inv .0)
-    (λ c. c .before .before .before .before .before .before .before .turn .kept .1 .1 .1 .1 .0 ∙ c .before .before .before .before .before .before .before .before .before .before .before .before .loop .inv .1)
-    (λ c. c .before .before .before .before .before .before .before .turn .kept .1 .1 .1 .1 .1 .0 ∙ c .before .before .before .before .before .before .before .before .before .before .before .before .loop .inv .2)
-    (λ c. search needs)
     (λ c κs. search needs)
-    (λ c. search needs)
-    (λ c. search needs)
-    (λ c. (c .before .before .before .before .before .before .before .before .before .turn .kept .1 .1 .1 .0 ∙ c .before .before .before .before .before .before .before .before .before .before .before .before .before .before .loop .inv .0, c .before .before .before .before .before .before .before .before .before .turn .kept .1 .1 .1 .1 .0 ∙ c .before .before .before .before .before .before .before .before .before .before .before .before .before .before .loop .inv .1, c .before .before .before .before .before .before .before .before .before .turn .kept .1 .1 .1 .1 .1 .0 ∙ c .before .before .before .before .before .before .before .before .before .before .before .before .before .before .loop .inv .2, search needs))
+    (λ c. c .before .before .before .before .before .before .before .before .before .turn .kept .1 .1 .1 .0 ∙ c .before .before .before .before .before .before .before .before .before .before .before .before .before .before .loop .inv .0)
+    (λ c. c .before .before .before .before .before .before .before .before .before .turn .kept .1 .1 .1 .1 .0 ∙ c .before .before .before .before .before .before .before .before .before .before .before .before .before .before .loop .inv .1)
+    (λ c. c .before .before .before .before .before .before .before .before .before .turn .kept .1 .1 .1 .1 .1 .0 ∙ c .before .before .before .before .before .before .before .before .before .before .before .before .before .before .loop .inv .2)
+    returns
+    (λ c κs. search needs)
+    loop-less
+    loop-again
     (λ c. c .before .loop .inv .0)
     (λ c. c .before .loop .inv .1)
     (λ c. c .before .loop .inv .2)
-    (λ c. search needs))
+    returns-2)
