@@ -14,11 +14,11 @@
 -- Assumes nothing.
 use mathlib.Core.Path.{_≡_, sym, ap}
 use mathlib.Core.Bool.{true, false}
-use mathlib.Core.List.{List, [], _∷_, _++_}
+use mathlib.Core.List.{List, [], _∷_}
 use Prim.Native.Nat.{ℕ}
 use native.Mathlib.Omega.{arith}
 use lib.ListN.{getD, replicate}
-use Rattle.base.proofs.Cases.{clash, never}
+use Rattle.base.proofs.Cases.{never}
 use Rattle.card.specs.BlockOut.{outJudged}
 use Rattle.lines.specs.Lines.{numberText, hexText, endText, headText, namedLine, plainLine}
 use Rattle.lines.specs.Text.{hexOf, digitsOf, decimalOf}

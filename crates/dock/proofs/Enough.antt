@@ -7,15 +7,15 @@
 --   next-line   where it does not, the records behind it come after its line
 -- Assumes nothing.
 use mathlib.Core.Path.{_≡_, refl, sym, ap, _∙_}
-use mathlib.Core.Bool.{Bool, true, false}
+use mathlib.Core.Bool.{true, false}
 use mathlib.Core.List.{List, [], _∷_, _++_, append-nil}
-use Prim.Native.Nat.{ℕ, zero, suc, _+_, _-_, _≤_, _<_}
+use Prim.Native.Nat.{ℕ, zero, suc, _+_, _-_, _≤_}
 use native.Mathlib.Omega.{arith}
 use lib.Dec.{leb}
 use lib.ListN.{length, drop, length-drop}
 use Rattle.base.proofs.Cases.{cases, never}
 use Rattle.dock.specs.Reading.{askedOf}
-use Rattle.dock.specs.Record.{cardText, cardSaid, frameText, frameSaid, askedText, askedSaid, roomy, textOf, saidOf}
+use Rattle.dock.specs.Record.{cardSaid, frameSaid, askedText, askedSaid, roomy, textOf, saidOf}
 use Rattle.dock.specs.Transcript.{records}
 use Rattle.dock.specs.declared.Asked.{Asked}
 use Rattle.dock.specs.declared.Asked.the-variants.{Card, Frame, Stop}

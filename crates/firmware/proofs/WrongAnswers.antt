@@ -17,7 +17,7 @@
 --   sent-unfinished        a card that still awaits CMD30's block when it has gone out
 -- Assumes nothing.
 use mathlib.Core.Path.{_≡_}
-use mathlib.Core.List.{List, [], _∷_, _++_}
+use mathlib.Core.List.{[], _∷_}
 use Prim.Native.Nat.{ℕ}
 use native.Mathlib.Omega.{arith}
 use lib.ListN.{getD, replicate}
@@ -27,7 +27,7 @@ use Rattle.card.specs.BlockOut.{outGood, protectionJudged, outJudged}
 use Rattle.card.specs.declared.Outcome.the-variants.{Wrote, Refused as Unsent}
 use Rattle.crc.specs.Bits.{bits}
 use Rattle.crc.specs.Crc.{divide, remainder, checkSum, crc7, crc16}
-use Rattle.crossing.specs.Record.{stateOf, tagsBy, cardOf, numbersOf}
+use Rattle.crossing.specs.Record.{stateOf, cardOf, numbersOf}
 use Rattle.record.specs.Power.{freshLink, poweredOn, worked}
 use Rattle.record.specs.declared.Card.{Card}
 use Rattle.store.specs.Map.{entriesRight}

@@ -1,7 +1,7 @@
 -- `busplayer::play` meets its contract: at each turn what was handed over and what is to come are the whole transcript.
 -- Assumes nothing.
 use mathlib.Core.Path.{_≡_, refl}
-use Prim.Native.Nat.{ℕ, _-_, _≤_}
+use Prim.Native.Nat.{_-_, _≤_}
 use borrow.Author.Needs.{needs}
 use denote.Ref.{now}
 use lib.ListN.{length}
@@ -21,24 +21,36 @@ loop-holds c = (refl, search needs, search needs, counts-0 (now (c .before .befo
 
 returns : tie.Need-returns Inv-loop μ-loop
 returns c =
-    let a = c .before .before .before .before .before .before .before .before .before .before .args in
-    let l = c .before .before .before .before .before .before .before .loop in
-    let t = c .before .before .before .before .turn in
-    counts-end (now (a .script)) (l .world) (l .at) (l .total) (t .result .shown) _ _ (t .result .said) (l .inv .0) (c .before .before .before .before .before .before .loop-test .taken) (t .ensures .0) (t .ensures .1) (c .before .behind .ensures) (l .inv .3) (c .if1 .taken)
+    let at-turn = c .before .before .before .before in
+    let at-loop-test = at-turn .before .before in
+    let at-loop = at-loop-test .before in
+    let at-start = at-loop .before .before .before in
+    let a = at-start .args in
+    let l = at-loop .loop in
+    let t = at-turn .turn in
+    counts-end (now (a .script)) (l .world) (l .at) (l .total) (t .result .shown) _ _ (t .result .said) (l .inv .0) (at-loop-test .loop-test .taken) (t .ensures .0) (t .ensures .1) (c .before .behind .ensures) (l .inv .3) (c .if1 .taken)
 
 loop-less : tie.Need-loop-less Inv-loop μ-loop
 loop-less c =
-    let a = c .before .before .before .before .before .before .before .before .before .before .before .before .args in
-    let l = c .before .before .before .before .before .before .before .before .before .loop in
-    let t = c .before .before .before .before .before .before .turn in
-    counts-less (now (a .script)) (l .world) (l .at) (l .total) (t .result .shown) _ _ (t .result .said) (l .inv .0) (c .before .before .before .before .before .before .before .before .loop-test .taken) (t .ensures .0) (t .ensures .1) (c .before .before .before .behind .ensures) (l .inv .3) _ (c .before .before .if1 .left) (c .before .behind2 .ensures)
+    let at-turn = c .before .before .before .before .before .before in
+    let at-loop-test = at-turn .before .before in
+    let at-loop = at-loop-test .before in
+    let at-start = at-loop .before .before .before in
+    let a = at-start .args in
+    let l = at-loop .loop in
+    let t = at-turn .turn in
+    counts-less (now (a .script)) (l .world) (l .at) (l .total) (t .result .shown) _ _ (t .result .said) (l .inv .0) (at-loop-test .loop-test .taken) (t .ensures .0) (t .ensures .1) (c .before .before .before .behind .ensures) (l .inv .3) _ (c .before .before .if1 .left) (c .before .behind2 .ensures)
 
 loop-again : tie.Need-loop-again Inv-loop μ-loop
 loop-again c =
-    let a = c .before .before .before .before .before .before .before .before .before .before .before .before .args in
-    let l = c .before .before .before .before .before .before .before .before .before .loop in
-    let t = c .before .before .before .before .before .before .turn in
-    let on = counts-on (now (a .script)) (l .world) (l .at) (l .total) (t .result .shown) _ _ (t .result .said) (l .inv .0) (c .before .before .before .before .before .before .before .before .loop-test .taken) (t .ensures .0) (t .ensures .1) (c .before .before .before .behind .ensures) (l .inv .3) _ (c .before .before .if1 .left) (c .before .behind2 .ensures) in
+    let at-turn = c .before .before .before .before .before .before in
+    let at-loop-test = at-turn .before .before in
+    let at-loop = at-loop-test .before in
+    let at-start = at-loop .before .before .before in
+    let a = at-start .args in
+    let l = at-loop .loop in
+    let t = at-turn .turn in
+    let on = counts-on (now (a .script)) (l .world) (l .at) (l .total) (t .result .shown) _ _ (t .result .said) (l .inv .0) (at-loop-test .loop-test .taken) (t .ensures .0) (t .ensures .1) (c .before .before .before .behind .ensures) (l .inv .3) _ (c .before .before .if1 .left) (c .before .behind2 .ensures) in
     (search needs, search needs, search needs, on)
 
 returns-2 : tie.Need-returns-2 Inv-loop μ-loop

@@ -1,7 +1,6 @@
 -- `player::play` meets its contract: the buffers are the transcript's, and as long as their arrays.
 -- Assumes nothing.
 use borrow.Author.Needs.{needs}
-use lib.ListN.{length}
 use Rattle.bench.specs.Transcript.{transcript}
 use Rattle.tape.proofs.Buffers.{zeros}
 use Rattle.player.proofs.play.Statement.{statement}

@@ -35,25 +35,37 @@ loop-holds c =
 
 returns : tie.Need-returns Inv-loop μ-loop
 returns c =
-    let a = c .before .before .before .before .before .before .before .before .before .before .before .before .before .before .before .before .before .before .before .before .args in
-    let l = c .before .before .before .before .before .before .before .before .before .before .before .before .before .before .loop in
-    let t = c .before .before .before .before .before .before .before .before .before .turn in
-    counts-end (all (now (a .script)) (now (a .memory)) (now (a .map))) (now (a .script)) (l .world) (l .memory) (l .map) (l .at) (l .total) (t .result .shown) _ _ (t .result .said) (l .inv .2 ∙ c .before .before .before .before .before .before .before .before .before .before .before .before .before .before .before .before .before .before .before .before .pre) (c .before .before .before .before .before .before .before .before .before .before .before .before .before .loop-test .taken) (t .ensures .0) (t .ensures .1 .1 .1) (c .before .behind .ensures) (l .inv .5) (c .if1 .taken)
+    let at-turn = c .before .before .before .before .before .before .before .before .before in
+    let at-loop-test = at-turn .before .before .before .before in
+    let at-loop = at-loop-test .before in
+    let at-start = at-loop .before .before .before .before .before .before in
+    let a = at-start .args in
+    let l = at-loop .loop in
+    let t = at-turn .turn in
+    counts-end (all (now (a .script)) (now (a .memory)) (now (a .map))) (now (a .script)) (l .world) (l .memory) (l .map) (l .at) (l .total) (t .result .shown) _ _ (t .result .said) (l .inv .2 ∙ at-start .pre) (at-loop-test .loop-test .taken) (t .ensures .0) (t .ensures .1 .1 .1) (c .before .behind .ensures) (l .inv .5) (c .if1 .taken)
 
 loop-less : tie.Need-loop-less Inv-loop μ-loop
 loop-less c =
-    let a = c .before .before .before .before .before .before .before .before .before .before .before .before .before .before .before .before .before .before .before .before .before .before .args in
-    let l = c .before .before .before .before .before .before .before .before .before .before .before .before .before .before .before .before .loop in
-    let t = c .before .before .before .before .before .before .before .before .before .before .before .turn in
-    counts-less (all (now (a .script)) (now (a .memory)) (now (a .map))) (now (a .script)) (l .world) (l .memory) (l .map) (l .at) (l .total) (t .result .shown) _ _ (t .result .said) (l .inv .2 ∙ c .before .before .before .before .before .before .before .before .before .before .before .before .before .before .before .before .before .before .before .before .before .before .pre) (c .before .before .before .before .before .before .before .before .before .before .before .before .before .before .before .loop-test .taken) (t .ensures .0) (t .ensures .1 .1 .1) (c .before .before .before .behind .ensures) (l .inv .5) _ (c .before .before .if1 .left) (c .before .behind2 .ensures)
+    let at-turn = c .before .before .before .before .before .before .before .before .before .before .before in
+    let at-loop-test = at-turn .before .before .before .before in
+    let at-loop = at-loop-test .before in
+    let at-start = at-loop .before .before .before .before .before .before in
+    let a = at-start .args in
+    let l = at-loop .loop in
+    let t = at-turn .turn in
+    counts-less (all (now (a .script)) (now (a .memory)) (now (a .map))) (now (a .script)) (l .world) (l .memory) (l .map) (l .at) (l .total) (t .result .shown) _ _ (t .result .said) (l .inv .2 ∙ at-start .pre) (at-loop-test .loop-test .taken) (t .ensures .0) (t .ensures .1 .1 .1) (c .before .before .before .behind .ensures) (l .inv .5) _ (c .before .before .if1 .left) (c .before .behind2 .ensures)
 
 loop-again : tie.Need-loop-again Inv-loop μ-loop
 loop-again c =
-    let a = c .before .before .before .before .before .before .before .before .before .before .before .before .before .before .before .before .before .before .before .before .before .before .args in
-    let l = c .before .before .before .before .before .before .before .before .before .before .before .before .before .before .before .before .loop in
-    let t = c .before .before .before .before .before .before .before .before .before .before .before .turn in
-    let on = counts-on (all (now (a .script)) (now (a .memory)) (now (a .map))) (now (a .script)) (l .world) (l .memory) (l .map) (l .at) (l .total) (t .result .shown) _ _ (t .result .said) (l .inv .2 ∙ c .before .before .before .before .before .before .before .before .before .before .before .before .before .before .before .before .before .before .before .before .before .before .pre) (c .before .before .before .before .before .before .before .before .before .before .before .before .before .before .before .loop-test .taken) (t .ensures .0) (t .ensures .1 .1 .1) (c .before .before .before .behind .ensures) (l .inv .5) _ (c .before .before .if1 .left) (c .before .behind2 .ensures) _ _ (t .ensures .1 .0) (t .ensures .1 .1 .0) in
-    (c .before .before .before .before .before .before .before .before .before .before .before .turn .kept .1 .1 .1 .0 ∙ c .before .before .before .before .before .before .before .before .before .before .before .before .before .before .before .before .loop .inv .0, c .before .before .before .before .before .before .before .before .before .before .before .turn .kept .1 .1 .1 .1 .0 ∙ c .before .before .before .before .before .before .before .before .before .before .before .before .before .before .before .before .loop .inv .1, c .before .before .before .before .before .before .before .before .before .before .before .turn .kept .1 .1 .1 .1 .1 .0 ∙ c .before .before .before .before .before .before .before .before .before .before .before .before .before .before .before .before .loop .inv .2, search needs, search needs, on)
+    let at-turn = c .before .before .before .before .before .before .before .before .before .before .before in
+    let at-loop-test = at-turn .before .before .before .before in
+    let at-loop = at-loop-test .before in
+    let at-start = at-loop .before .before .before .before .before .before in
+    let a = at-start .args in
+    let l = at-loop .loop in
+    let t = at-turn .turn in
+    let on = counts-on (all (now (a .script)) (now (a .memory)) (now (a .map))) (now (a .script)) (l .world) (l .memory) (l .map) (l .at) (l .total) (t .result .shown) _ _ (t .result .said) (l .inv .2 ∙ at-start .pre) (at-loop-test .loop-test .taken) (t .ensures .0) (t .ensures .1 .1 .1) (c .before .before .before .behind .ensures) (l .inv .5) _ (c .before .before .if1 .left) (c .before .behind2 .ensures) _ _ (t .ensures .1 .0) (t .ensures .1 .1 .0) in
+    (at-turn .turn .kept .1 .1 .1 .0 ∙ at-loop .loop .inv .0, at-turn .turn .kept .1 .1 .1 .1 .0 ∙ at-loop .loop .inv .1, at-turn .turn .kept .1 .1 .1 .1 .1 .0 ∙ at-loop .loop .inv .2, search needs, search needs, on)
 
 returns-2 : tie.Need-returns-2 Inv-loop μ-loop
 returns-2 c =
@@ -71,9 +83,9 @@ run-spec =
     loop-holds
     (λ c κs. search needs)
     (λ c κs. search needs)
-    (λ c. c .before .before .before .before .before .before .before .before .before .turn .kept .1 .1 .1 .0 ∙ c .before .before .before .before .before .before .before .before .before .before .before .before .before .before .loop .inv .0)
-    (λ c. c .before .before .before .before .before .before .before .before .before .turn .kept .1 .1 .1 .1 .0 ∙ c .before .before .before .before .before .before .before .before .before .before .before .before .before .before .loop .inv .1)
-    (λ c. c .before .before .before .before .before .before .before .before .before .turn .kept .1 .1 .1 .1 .1 .0 ∙ c .before .before .before .before .before .before .before .before .before .before .before .before .before .before .loop .inv .2)
+    (λ c. let at-turn = c .before .before .before .before .before .before .before .before .before in let at-loop = at-turn .before .before .before .before .before in at-turn .turn .kept .1 .1 .1 .0 ∙ at-loop .loop .inv .0)
+    (λ c. let at-turn = c .before .before .before .before .before .before .before .before .before in let at-loop = at-turn .before .before .before .before .before in at-turn .turn .kept .1 .1 .1 .1 .0 ∙ at-loop .loop .inv .1)
+    (λ c. let at-turn = c .before .before .before .before .before .before .before .before .before in let at-loop = at-turn .before .before .before .before .before in at-turn .turn .kept .1 .1 .1 .1 .1 .0 ∙ at-loop .loop .inv .2)
     returns
     (λ c κs. search needs)
     loop-less

@@ -8,8 +8,10 @@ use Rattle.player.proofs.turn.Tie as tie
 
 returns : tie.Need-returns
 returns c =
-    let a = c .before .before .before .before .before .before .before .before .before .before .before .before .before .before .before .before .before .args in
-    let p = c .before .before .before .before .before .before .before .before .before .before .before .before .part .ensures .0 in
+    let at-part = c .before .before .before .before .before .before .before .before .before .before .before .before in
+    let at-start = at-part .before .before .before .before .before in
+    let a = at-start .args in
+    let p = at-part .part .ensures .0 in
     let d = c .before .before .before .before .before .before .before .before .«record» in
     let script = now (a .script) in
     let memory = now (a .memory) in
