@@ -9,7 +9,7 @@
 --   map-unset         0A that leaves the map as it was
 --   past-map-set      0A that sets an entry behind the card's map
 --   lent-kept         09 that leaves what is lent as it was
---   zeros-shown       04 of a card that has no block to send shown with zeros, where its output holds A5
+--   zeros-shown       zeros shown for the output of a refused 04, which holds A5
 --   unroomy-written   a line in an output that has not room for every line
 -- Assumes nothing.
 use mathlib.Core.Path.{_≡_, sym, ap}

@@ -1,6 +1,6 @@
 -- Wrong answers that the promise of `write_sent` rules out, each refuted at a sample that antt computes.
 --   csd-for-cid, cid-for-csd   the other register sent
---   ocr-not-busy               an OCR without its bit 31
+--   ocr-bit-31-clear           an OCR without its bit 31
 --   silent-sends               a silent card that sends six bytes
 --   cid-in-16                  a CID written into an output of 16 bytes
 --   index-64                   a status with index 64 written
@@ -26,9 +26,9 @@ cid-for-csd : getD (sentBytes registers Csd) 1 0 ≡ 1 → ⊥
 unfolding sentBytes r2Frame
 cid-for-csd e = omega arith
 
-ocr-not-busy : getD (sentBytes registers Ocr) 1 0 ≡ 0 → ⊥
+ocr-bit-31-clear : getD (sentBytes registers Ocr) 1 0 ≡ 0 → ⊥
 unfolding sentBytes r3Frame
-ocr-not-busy e = omega arith
+ocr-bit-31-clear e = omega arith
 
 silent-sends : length (sentBytes registers Nothing) ≡ 6 → ⊥
 unfolding sentBytes

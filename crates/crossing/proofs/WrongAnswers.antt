@@ -3,7 +3,7 @@
 --   state-14-idle      a state over 13 read as Idle
 --   locked-by-2        locked read from a number that is neither 0 nor 1
 --   tags-by-5          tags read from a number over 4
---   address-refused    an address wider than 16 bits read as none, where its low bits count
+--   address-dropped    an address wider than 16 bits read as none, where its low bits count
 --   inactive-as-idle   Inactive told with the number of Idle
 --   unlocked-as-1      an unlocked record told as locked
 -- Assumes nothing.
@@ -38,9 +38,9 @@ tags-by-5 : odd .link .tags .range ≡ Full Groups 3 4 → ⊥
 unfolding cardOf tagsBy
 tags-by-5 e = clash cc
 
-address-refused : odd .link .address ≡ 0 → ⊥
+address-dropped : odd .link .address ≡ 0 → ⊥
 unfolding cardOf
-address-refused e = omega arith
+address-dropped e = omega arith
 
 inactive-as-idle : getD (numbersOf refusedMake) 0 0 ≡ 0 → ⊥
 unfolding numbersOf refusedMake

@@ -14,7 +14,7 @@
 --   worked-prg, worked-dis work done that leaves prg, or takes dis to tran
 --   refused-told-bytes     bytes told of a block that was refused
 --   sent-told-as-refused   a number for a block that went out
---   sent-unfinished        a card that still awaits CMD30's block when it has gone out
+--   sent-unfinished        a card that is still to send CMD30's block when it has gone out
 -- Assumes nothing.
 use mathlib.Core.Path.{_≡_}
 use mathlib.Core.List.{[], _∷_}
