@@ -3,6 +3,7 @@
 use mathlib.Core.Path.{refl, _∙_, _≡_}
 use mathlib.Core.List.{List}
 use Prim.Native.Nat.{ℕ, _-_, _≤_}
+use native.Mathlib.Omega.{arith}
 use borrow.Author.Needs.{needs}
 use denote.Ref.{now}
 use lib.ListN.{length}
@@ -65,7 +66,7 @@ loop-again c =
     let l = at-loop .loop in
     let t = at-turn .turn in
     let on = counts-on (all (now (a .script)) (now (a .memory)) (now (a .map))) (now (a .script)) (l .world) (l .memory) (l .map) (l .at) (l .total) (t .result .shown) _ _ (t .result .said) (l .inv .2 ∙ at-start .pre) (at-loop-test .loop-test .taken) (t .ensures .0) (t .ensures .1 .1 .1) (c .before .before .before .behind .ensures) (l .inv .5) _ (c .before .before .if1 .left) (c .before .behind2 .ensures) _ _ (t .ensures .1 .0) (t .ensures .1 .1 .0) in
-    (at-turn .turn .kept .1 .1 .1 .0 ∙ at-loop .loop .inv .0, at-turn .turn .kept .1 .1 .1 .1 .0 ∙ at-loop .loop .inv .1, at-turn .turn .kept .1 .1 .1 .1 .1 .0 ∙ at-loop .loop .inv .2, search needs, search needs, on)
+    (at-turn .turn .kept .1 .1 .1 .0 ∙ at-loop .loop .inv .0, at-turn .turn .kept .1 .1 .1 .1 .0 ∙ at-loop .loop .inv .1, at-turn .turn .kept .1 .1 .1 .1 .1 .0 ∙ at-loop .loop .inv .2, omega (arith, c .before .behind2 .ensures), omega (arith, c .before .before .before .behind .ensures), on)
 
 returns-2 : tie.Need-returns-2 Inv-loop μ-loop
 returns-2 c =
