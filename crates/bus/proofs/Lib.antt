@@ -1,6 +1,5 @@
 pub mod Cids
 pub mod Lists
-pub mod Numbers
 pub mod Sending
 pub mod Telling
 pub mod Winners

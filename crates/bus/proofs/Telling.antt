@@ -32,12 +32,13 @@ use Rattle.bus.proofs.Lists.{changed, changed-next, change-turn, first-
 use Rattle.bus.proofs.Sending.{any-wins}
 use Rattle.bus.proofs.Winners.{holders}
 use Rattle.bus.specs.Bus.{countOf, cardsOf, withCards, winsLine, metWith, commandAt, cardAfter, frameFrom, longestOf, frameSender, cidLine, andLine, lineOf, shownOf, padded}
-use Rattle.bus.specs.Contest.{noLow, lowFrom, lowFor, holds, Held, HeldAll}
+use Rattle.bus.specs.Contest.{lowFrom, lowFor, holds, Held, HeldAll}
 use Rattle.bus.specs.Hearing.{quiet, heardOf, heardFrom, turnOf, shownFrom, toldOf}
 use Rattle.bus.specs.declared.Bus.{Bus}
 use Rattle.bus.specs.declared.Framed.{Framed}
 use Rattle.bus.specs.declared.Heard.{Heard}
-use Rattle.bus.specs.declared.Low.{Low}
+use Rattle.line.specs.Lowest.{noLow}
+use Rattle.line.specs.declared.Low.{Low}
 use Rattle.bus.specs.declared.Shown.{Shown}
 use Rattle.bus.specs.declared.Shown.the-variants.{Line, Silent}
 use Rattle.bus.specs.declared.Turned.{Turned}

@@ -4,7 +4,6 @@
 --   low-least    what is found is no larger than a Ready card's CID
 --   low-from     what is found is a Ready card's CID, or what was there before
 --   better-.., holds-..   the step of the search and the question, as code tells their cases apart
---   order-..     the three answers of a comparison
 -- Assumes nothing.
 use mathlib.Core.Path.{_≡_, refl, sym, ap, _∙_, subst}
 use mathlib.Core.Bool.{Bool, true, false, not, false≢true}
@@ -14,52 +13,20 @@ use Prim.Native.Nat.{ℕ, _+_, _*_, _≤_, _<_}
 use native.Mathlib.Nat.{le-refl, le-trans}
 use native.Mathlib.Numerals.{add-one}
 use native.Mathlib.Omega.{arith}
-use borrow.Author.Tests.{ltb-true, ltb-false, eqb-true, eqb-false, eq-eqb, ne-eqb, lt-ltb, le-ltb, not-true, not-false}
-use lib.Dec.{eqb, ltb}
+use borrow.Author.Tests.{not-true, not-false}
 use lib.ListN.{length, take, getD}
 use lib.Seq.{take-suc}
 use Rattle.base.proofs.Cases.{cases}
-use Rattle.base.specs.Choice.{unless}
 use Rattle.crc.proofs.Bits.{length-bits, bits-below}
 use Rattle.crc.specs.Bits.{bits, spelt, Below}
 use Rattle.line.proofs.Arbitration.{Bitwise, bitwise, winners, line-is-smallest}
+use Rattle.line.proofs.Orders.{by-order}
 use Rattle.line.specs.Line.{Sender, contested}
+use Rattle.line.specs.Lowest.{numberOf, noLow, lowerOf, isLow}
+use Rattle.line.specs.declared.Low.{Low}
 use Rattle.record.specs.declared.Card.{Card}
 use Rattle.bus.specs.Bus.{isReady, cidSender, cidBits, winsLine}
-use Rattle.bus.specs.Contest.{numberOf, orderOf, cidOf, lowBy, byOrder, noLow, betterOf, lowFrom, holds, Held}
-use Rattle.bus.specs.declared.Low.{Low}
-use Rattle.bus.specs.declared.Order.{Order}
-use Rattle.bus.specs.declared.Order.the-variants.{Smaller, Same, Larger}
-
--- ---- a comparison
-pub order-smaller : (a b : List ℕ) → numberOf a < numberOf b → Smaller ≡ orderOf a b
-unfolding orderOf
-order-smaller a b h = simp (lt-ltb (numberOf a) (numberOf b) h)
-
-pub order-larger : (a b : List ℕ) → numberOf b < numberOf a → Larger ≡ orderOf a b
-unfolding orderOf
-order-larger a b h =
-    simp (le-ltb (numberOf a) (numberOf b) (omega arith), ne-eqb (numberOf a) (numberOf b) (λ e. omega arith))
-
-pub order-same : (a b : List ℕ) → numberOf a ≡ numberOf b → Same ≡ orderOf a b
-unfolding orderOf
-order-same a b e = simp (le-ltb (numberOf a) (numberOf b) (omega arith), eq-eqb (numberOf a) (numberOf b) e)
-
--- the three cases of a comparison
-by-order : {P : Type 0} (a b : List ℕ) → (numberOf a < numberOf b → orderOf a b ≡ Smaller → P) → (numberOf a ≡ numberOf b → orderOf a b ≡ Same → P)
-    → (numberOf b < numberOf a → orderOf a b ≡ Larger → P) → P
-by-order a b smaller same larger =
-    cases (ltb (numberOf a) (numberOf b))
-    (λ t. let h = ltb-true (numberOf a) (numberOf b) t in smaller h (sym (order-smaller a b h)))
-    (λ t.
-    cases (eqb (numberOf a) (numberOf b))
-    (λ u. let h = eqb-true (numberOf a) (numberOf b) u in same h (sym (order-same a b h)))
-    (λ u.
-    let n = eqb-false (numberOf a) (numberOf b) u in
-    let l = ltb-false (numberOf a) (numberOf b) t in
-    let h : numberOf b < numberOf a = cases (ltb (numberOf b) (numberOf a)) (λ v. ltb-true (numberOf b) (numberOf a) v)
-    (λ v. let k = ltb-false (numberOf b) (numberOf a) v in let e : numberOf a ≡ numberOf b = omega arith in absurd (n e)) in
-    larger h (sym (order-larger a b h))))
+use Rattle.bus.specs.Contest.{cidOf, betterOf, lowFrom, holds, Held}
 
 -- ---- the search
 low-snoc : (low : Low) (cards : List Card) (card : Card) → lowFrom low (cards ++ card ∷ []) ≡ betterOf (lowFrom low cards) card
@@ -82,7 +49,7 @@ low-turn low was now cards i d h p q =
 -- one step: what was found is no larger, and a Ready card's CID is no smaller than what is found
 better-old : (low : Low) (card : Card) → low .any ≡ true
     → (betterOf low card .any ≡ true) × (numberOf (betterOf low card .cid) ≤ numberOf (low .cid))
-unfolding betterOf
+unfolding betterOf lowerOf
 better-old low card any =
     cases (isReady card)
     (λ r. by-order (cidOf card) (low .cid)
@@ -93,7 +60,7 @@ better-old low card any =
 
 better-new : (low : Low) (card : Card) → isReady card ≡ true
     → (betterOf low card .any ≡ true) × (numberOf (betterOf low card .cid) ≤ numberOf (cidOf card))
-unfolding betterOf
+unfolding betterOf lowerOf
 better-new low card r =
     cases (low .any)
     (λ any. by-order (cidOf card) (low .cid)
@@ -103,7 +70,7 @@ better-new low card r =
     (λ any. rw (r, any) (refl, le-refl (numberOf (cidOf card))))
 
 better-from : (low : Low) (card : Card) → (betterOf low card ≡ low) ⊎ ((isReady card ≡ true) × (betterOf low card .cid ≡ cidOf card))
-unfolding betterOf
+unfolding betterOf lowerOf
 better-from low card =
     cases (isReady card)
     (λ r. cases (low .any)
@@ -111,42 +78,23 @@ better-from low card =
     (λ any. inr (r, rw (r, any))))
     (λ r. inl (rw r))
 
--- the answers of the step and of the question, from the tests that code makes
+-- the answers of the step and of the question, from the test that code makes
 module _ (low : Low) (card : Card) (ready : Bool) (told : ready ≡ isReady card) where
   pub better-silent : not ready ≡ true → low ≡ betterOf low card
   unfolding betterOf
   better-silent r = let e = sym told ∙ not-true ready r in rw e
 
-  pub better-first : not ready ≡ false → not (low .any) ≡ true → lowBy card ≡ betterOf low card
+  pub better-sent : not ready ≡ false → lowerOf low (cidOf card) ≡ betterOf low card
   unfolding betterOf
-  better-first r a = let e = sym told ∙ not-false ready r in let any = not-true (low .any) a in rw (e, any)
+  better-sent r = let e = sym told ∙ not-false ready r in rw e
 
-  pub better-by : not ready ≡ false → not (low .any) ≡ false → (order is : Order) → order ≡ orderOf (cidOf card) (low .cid) → order ≡ is
-      → byOrder is (lowBy card) low low ≡ betterOf low card
-  unfolding betterOf
-  better-by r a order is o e =
-      sym
-      (ap (λ (t : Bool). unless t low (unless (low .any) (lowBy card) (byOrder (orderOf (cidOf card) (low .cid)) (lowBy card) low low)))
-      (sym told ∙ not-false ready r)
-      ∙ ap (λ (t : Bool). unless t (lowBy card) (byOrder (orderOf (cidOf card) (low .cid)) (lowBy card) low low)) (not-false (low .any) a)
-      ∙ ap (λ (k : Order). byOrder k (lowBy card) low low) (sym o ∙ e))
-
-  pub holds-silent : not (low .any) ≡ false → not ready ≡ true → false ≡ holds low card
+  pub holds-silent : not ready ≡ true → false ≡ holds low card
   unfolding holds
-  holds-silent a r = let any = not-false (low .any) a in let e = sym told ∙ not-true ready r in rw (any, e)
+  holds-silent r = let e = sym told ∙ not-true ready r in rw e
 
-  pub holds-by : not (low .any) ≡ false → not ready ≡ false → (order is : Order) → order ≡ orderOf (cidOf card) (low .cid) → order ≡ is
-      → byOrder is false true false ≡ holds low card
+  pub holds-sent : not ready ≡ false → isLow low (cidOf card) ≡ holds low card
   unfolding holds
-  holds-by a r order is o e =
-      let any = not-false (low .any) a in
-      let on = sym told ∙ not-false ready r in
-      let by = sym o ∙ e in
-      rw (any, on, by)
-
-pub holds-none : (low : Low) (card : Card) → not (low .any) ≡ true → false ≡ holds low card
-unfolding holds
-holds-none low card a = let any = not-true (low .any) a in rw any
+  holds-sent r = let e = sym told ∙ not-false ready r in rw e
 
 low-old : (low : Low) (cards : List Card) → low .any ≡ true
     → (lowFrom low cards .any ≡ true) × (numberOf (lowFrom low cards .cid) ≤ numberOf (low .cid))
@@ -212,7 +160,7 @@ module _ (cards : List Card) (held : (card : Card) → List·Memᴰ card cards �
       none e = ap (λ (l : Low). l .any) e
 
   pub holders : (card : Card) → List·Memᴰ card cards → holds (lowFrom noLow cards) card ≡ winsLine cards card
-  unfolding holds numberOf
+  unfolding holds isLow numberOf
   holders card m =
       let low : Low = lowFrom noLow cards in
       let w = winners cidBits (map cidSender cards) cid-bitwise (cidSender card) (Memᴰ·map cidSender m) in
@@ -227,5 +175,5 @@ module _ (cards : List Card) (held : (card : Card) → List·Memᴰ card cards �
       (λ h o. let left : holds low card ≡ true = rw (any, r, o) in left ∙ sym (w .1 (r, h ∙ sym shown)))
       (λ h o. let left : holds low card ≡ false = rw (any, r, o) in left ∙ sym (lost (λ t. let e = w .0 t .1 in omega arith))))
       (λ r.
-      let left : holds low card ≡ false = cases (low .any) (λ any. rw (any, r)) (λ any. rw any) in
+      let left : holds low card ≡ false = rw r in
       left ∙ sym (lost (λ t. false≢true (sym r ∙ w .0 t .0))))

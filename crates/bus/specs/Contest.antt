@@ -2,45 +2,25 @@
 -- proved (`holders` in proofs/Winners).
 -- Assumes nothing.
 use mathlib.Core.Path.{_≡_}
-use mathlib.Core.Bool.{Bool, true, false}
+use mathlib.Core.Bool.{Bool, false}
 use mathlib.Core.List.{List, [], _∷_}
 use Prim.Native.Nat.{ℕ, _<_}
-use lib.Dec.{eqb, ltb}
-use lib.ListN.{length, getD, replicate}
-use Rattle.base.specs.Choice.{pick, unless}
-use Rattle.crc.specs.Bits.{bits, spelt, Below}
+use lib.Dec.{eqb}
+use lib.ListN.{length, getD}
+use Rattle.base.specs.Choice.{unless}
+use Rattle.crc.specs.Bits.{Below}
+use Rattle.line.specs.Lowest.{noLow, lowerOf, isLow}
+use Rattle.line.specs.declared.Low.{Low}
 use Rattle.record.specs.declared.Card.{Card}
 use Rattle.bus.specs.Bus.{isReady, countOf, cardsOf}
 use Rattle.bus.specs.declared.Bus.{Bus}
-use Rattle.bus.specs.declared.Low.{Low}
-use Rattle.bus.specs.declared.Order.{Order}
-use Rattle.bus.specs.declared.Order.the-variants.{Smaller, Same, Larger}
-
--- a register as a number, its first bit highest
-unfoldable pub numberOf : List ℕ → ℕ
-numberOf register = spelt (bits register)
-
-unfoldable pub orderOf : List ℕ → List ℕ → Order
-orderOf a b = pick (ltb (numberOf a) (numberOf b)) Smaller (pick (eqb (numberOf a) (numberOf b)) Same Larger)
-
-unfoldable pub noLow : Low
-noLow = record { any = false; cid = replicate 16 0 }
 
 abbrev pub cidOf : Card → List ℕ
 cidOf card = card .registers .cid
 
-abbrev pub lowBy : Card → Low
-lowBy card = record { any = true; cid = cidOf card }
-
-abbrev pub byOrder : {A : Type 0} → Order → A → A → A → A
-byOrder Smaller a b c = a
-byOrder Same a b c = b
-byOrder Larger a b c = c
-
 -- what was found, or a card's CID where it sends it and nothing smaller was found
 unfoldable pub betterOf : Low → Card → Low
-betterOf low card =
-    unless (isReady card) low (unless (low .any) (lowBy card) (byOrder (orderOf (cidOf card) (low .cid)) (lowBy card) low low))
+betterOf low card = unless (isReady card) low (lowerOf low (cidOf card))
 
 unfoldable pub lowFrom : Low → List Card → Low
 lowFrom low [] = low
@@ -52,7 +32,7 @@ lowFor bus index = unless (eqb index 2) noLow (lowFrom noLow (cardsOf bus))
 
 -- whether a card sends its CID and it is the one that was found
 unfoldable pub holds : Low → Card → Bool
-holds low card = unless (low .any) false (unless (isReady card) false (byOrder (orderOf (cidOf card) (low .cid)) false true false))
+holds low card = unless (isReady card) false (isLow low (cidOf card))
 
 -- what the type of a card says of its CID: 16 bytes
 abbrev pub Held : Card → Type 0

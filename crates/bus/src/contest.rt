@@ -1,30 +1,12 @@
-// CMD2: the smallest CID among the Ready cards, byte by byte, and who holds it. That the holders are
-// those that are heard to the last bit is proved.
+// CMD2: the smallest CID among the Ready cards, and who holds it. That the holders are those that are
+// heard to the last bit is proved.
 use crate::Bus;
-use crate::Low;
-use crate::Order;
 use crate::places;
+use line::Low;
 use record::Card;
 ghost use mathlib.Core.Path.{_≡_};
 ghost use Rattle.bus.specs.Bus.{isReady};
-ghost use Rattle.bus.specs.Contest.{orderOf, noLow, betterOf, lowFor, holds, Held, HeldAll};
-
-// How a CID stands to another: the first byte in which they differ decides.
-fn compare(a: [u8; 16], b: [u8; 16]) -> Order
-    ensures { λ r. ⌜ r ≡ orderOf a b ⌝ }
-{
-    let mut i: usize = 0;
-    while i < 16 {
-        if a[i] < b[i] {
-            return Order::Smaller;
-        }
-        if b[i] < a[i] {
-            return Order::Larger;
-        }
-        i += 1;
-    }
-    Order::Same
-}
+ghost use Rattle.bus.specs.Contest.{betterOf, lowFor, holds, Held, HeldAll};
 
 fn is_ready(card: Card) -> bool
     ensures { λ r. ⌜ r ≡ isReady card ⌝ }
@@ -35,16 +17,6 @@ fn is_ready(card: Card) -> bool
     states::number(on) == 1
 }
 
-// No CID yet.
-fn nobody() -> Low
-    ensures { λ r. ⌜ r ≡ noLow ⌝ }
-{
-    Low {
-        any: false,
-        cid: [0; 16],
-    }
-}
-
 // The smaller of what was found and a card's CID, if it sends it.
 fn better(low: Low, card: Card) -> Low
     ensures answer { λ r. ⌜ r ≡ betterOf low card ⌝ }
@@ -52,19 +24,10 @@ fn better(low: Low, card: Card) -> Low
 {
     let registers = card.registers;
     let cid = registers.cid;
-    let least = low.cid;
     if !is_ready(card) {
         return low;
     }
-    if !low.any {
-        return Low { any: true, cid };
-    }
-    let order = compare(cid, least);
-    match order {
-        Order::Smaller => Low { any: true, cid },
-        Order::Same => low,
-        Order::Larger => low,
-    }
+    line::lower(low, cid)
 }
 
 // The smallest CID among the Ready cards, for CMD2 alone.
@@ -73,10 +36,10 @@ pub fn lowest(bus: Bus, index: u8) -> Low
     ensures bytes { λ _. ⌜ HeldAll bus index ⌝ }
 {
     if index != 2 {
-        return nobody();
+        return line::nobody();
     }
     let end = places(bus.count);
-    let mut low = nobody();
+    let mut low = line::nobody();
     let mut i: usize = 0;
     while i < end {
         let card = bus.cards[i];
@@ -90,19 +53,10 @@ pub fn lowest(bus: Bus, index: u8) -> Low
 pub fn wins(low: Low, card: Card) -> bool
     ensures answer { λ r. ⌜ r ≡ holds low card ⌝ }
 {
-    if !low.any {
-        return false;
-    }
     if !is_ready(card) {
         return false;
     }
     let registers = card.registers;
     let cid = registers.cid;
-    let least = low.cid;
-    let order = compare(cid, least);
-    match order {
-        Order::Smaller => false,
-        Order::Same => true,
-        Order::Larger => false,
-    }
+    line::is_low(low, cid)
 }

@@ -17,27 +17,11 @@ use record::Card;
 use record::Registers;
 ghost use mathlib.Core.Path.{_≡_};
 ghost use Prim.Native.Nat.{_≤_, max};
-ghost use lib.ListN.{take};
 ghost use Rattle.bus.specs.Bus.{busIndices, commandFor};
 ghost use Rattle.bus.specs.Hearing.{heardOf, turnOf, shownFrom, toldOf};
 ghost use Rattle.command.specs.Sending.{sentBytes, Sendable};
 ghost use Rattle.crc.specs.Bits.{Below};
-ghost use Rattle.line.specs.Bytes.{anded};
 ghost use Rattle.moves.specs.Indices.{among};
-
-// The line ANDed with the first bytes of what a card sends.
-fn and(line: [u8; 17], sent: [u8; 17], length: usize) -> [u8; 17]
-    requires { ⌜ length ≤ 17 ⌝ }
-    ensures { λ r. ⌜ r ≡ anded line (take length sent) ⌝ }
-{
-    let mut out = line;
-    let mut i: usize = 0;
-    while i < length {
-        out[i] = out[i] & sent[i];
-        i += 1;
-    }
-    out
-}
 
 fn longer(a: usize, b: usize) -> usize
     ensures { λ r. ⌜ r ≡ max a b ⌝ }
@@ -59,7 +43,7 @@ fn hear(heard: Heard, registers: Registers, sent: Sent) -> Heard
     let line = heard.line;
     match written {
         Written::Bytes(n) => Heard {
-            line: and(line, sends, n),
+            line: line::and(line, &sends[0..n]),
             length: longer(heard.length, n),
         },
         Written::Refused(_) => heard,

@@ -52,19 +52,6 @@ pub struct Taken {
     pub found: bool,
 }
 
-// The smallest CID among the cards that send theirs, if any does.
-pub struct Low {
-    pub any: bool,
-    pub cid: [u8; 16],
-}
-
-// How a CID stands to another, as numbers.
-pub enum Order {
-    Smaller,
-    Same,
-    Larger,
-}
-
 // What the line holds of the frames so far: their AND, and the length of the longest.
 pub struct Heard {
     pub line: [u8; 17],

@@ -4,7 +4,7 @@
 --   mins              two rows of bits, the lower one at each place, as long as the second lasts
 --   bits-anded        the bits of two rows of bytes ANDed are the lower bits
 --   together-mins     what the line shows are the lower bits of all that is sent
---   anded-start, anded-turn   a byte more
+--   anded-start, anded-turn, anded-all   a byte more, and all of them
 --   take-anded, length-anded
 -- Assumes nothing.
 use mathlib.Core.Path.{_≡_, refl, sym, ap, ap₂, _∙_, subst}
@@ -171,6 +171,15 @@ pub anded-turn : (n : ℕ) (xs ys out : List ℕ) → n < length ys → out ≡ 
 anded-turn n xs ys out h e =
     ap₂ (λ (l : List ℕ) (b : ℕ). set l n (bitAnd b (getD ys n 0))) e (ap (λ (l : List ℕ). getD l n 0) e ∙ anded-at n xs ys)
     ∙ anded-suc n xs ys h ∙ ap (λ (k : ℕ). anded xs (take k ys)) (sym (add-one n))
+
+-- what of a frame the line has no room for changes nothing
+pub anded-all : (n : ℕ) (xs ys : List ℕ) → n ≡ min (length xs) (length ys) → anded xs (take n ys) ≡ anded xs ys
+unfolding anded
+anded-all n [] ys e = refl
+anded-all zero (x ∷ xs) [] e = refl
+anded-all zero (x ∷ xs) (y ∷ ys) e = absurd (omega arith)
+anded-all (suc n) (x ∷ xs) [] e = refl
+anded-all (suc n) (x ∷ xs) (y ∷ ys) e = ap (λ (l : List ℕ). bitAnd x y ∷ l) (anded-all n xs ys (omega arith))
 
 length-andedAll : (line : List ℕ) (frames : List (List ℕ)) → length (andedAll line frames) ≡ length line
 unfolding andedAll

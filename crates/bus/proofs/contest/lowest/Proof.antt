@@ -11,7 +11,8 @@ use Rattle.record.specs.declared.Card.{Card}
 use Rattle.bus.proofs.Lists.{getD-any}
 use Rattle.bus.proofs.Winners.{low-start, low-turn}
 use Rattle.bus.specs.Bus.{countOf}
-use Rattle.bus.specs.Contest.{noLow, lowFrom, lowFor, Held}
+use Rattle.bus.specs.Contest.{lowFrom, lowFor, Held}
+use Rattle.line.specs.Lowest.{noLow}
 use Rattle.bus.proofs.contest.lowest.Statement.{statement}
 use Rattle.bus.proofs.contest.lowest.Tie as tie
 

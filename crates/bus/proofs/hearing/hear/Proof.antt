@@ -2,7 +2,7 @@
 -- Assumes nothing.
 use mathlib.Core.List.{List}
 use mathlib.Core.Path.{_≡_, sym, ap, ap₂, _∙_}
-use Prim.Native.Nat.{ℕ, max}
+use Prim.Native.Nat.{ℕ, _-_, max}
 use native.Mathlib.Omega.{arith}
 use borrow.Author.Needs.{needs}
 use lib.ListN.{length, take, drop}
@@ -21,32 +21,37 @@ use Rattle.bus.proofs.hearing.hear.Tie as tie
 abbrev held : List ℕ → ℕ → Heard
 held line length = record { line = line; length = length }
 
-and-requires : tie.Need-and-requires
-and-requires c κs =
-    let s = c .before .before .before .before .before .before .before in
-    let w = c .before .before .before .before .before .write-sent .ensures in
-    let n = c .before .written .given in
+part-and-end : tie.Need-part-and-end
+part-and-end c =
+    let at-write-sent = c .before .before .before .before .before .before in
+    let s = at-write-sent .before .before in
+    let w = at-write-sent .write-sent .ensures in
+    let n = c .before .before .written .given in
     let a = s .args .registers in
     let cid : length (a .cid) ≡ 16 = search needs in
     let csd : length (a .csd) ≡ 16 = search needs in
-    written-bytes a (s .args .sent) zeros (s .pre .1) cid csd (omega arith) _ (w .0) (n .0 .0) (n .1) .1
+    let long : length (at-write-sent .write-sent .last .1 .1 .0) ≡ 17 = search needs in
+    let right = written-bytes a (s .args .sent) zeros (s .pre .1) cid csd (omega arith) _ (w .0) (n .0 .0) (n .1) in
+    omega (arith, right .1)
 
 returns : tie.Need-returns
 unfolding heardOf
 returns c =
-    let at-write-sent = c .before .before .before .before .before .before .before in
+    let at-write-sent = c .before .before .before .before .before .before .before .before .before in
     let s = at-write-sent .before .before in
     let w = at-write-sent .write-sent .ensures in
-    let n = c .before .before .before .written .given in
+    let n = c .before .before .before .before .before .written .given in
     let a = s .args .registers in
     let line = s .args .heard .line in
     let bytes = sentBytes a (s .args .sent) in
     let cid : length (a .cid) ≡ 16 = search needs in
     let csd : length (a .csd) ≡ 16 = search needs in
     let right = written-bytes a (s .args .sent) zeros (s .pre .1) cid csd (omega arith) _ (w .0) (n .0 .0) (n .1) in
-    let sends = w .1 ∙ ap (λ (r : Written). laid r bytes zeros) (n .1) in (
+    let sends = w .1 ∙ ap (λ (r : Written). laid r bytes zeros) (n .1) in
+    let whole : n .0 .0 - 0 ≡ n .0 .0 = omega arith in
+    let ands : c .before .and .result ≡ anded line (take (n .0 .0 - 0) (at-write-sent .write-sent .last .1 .1 .0)) = c .before .and .ensures in (
       ap₂ held
-          (c .before .and .ensures ∙ ap (λ (l : List ℕ). anded line (take (n .0 .0) l)) sends
+          (ands ∙ ap₂ (λ (k : ℕ) (l : List ℕ). anded line (take k l)) whole sends
           ∙ ap (anded line) (take-at bytes (drop (length bytes) zeros) (n .0 .0) (sym (right .0))))
           (c .longer .ensures ∙ ap (λ (k : ℕ). max (s .args .heard .length) k) (right .0)),
       omega (arith, c .longer .ensures, right .1, s .pre .0),
@@ -69,7 +74,10 @@ hear-spec =
     (λ c. search needs)
     (λ c κs. search needs)
     (λ c. search needs)
-    and-requires
+    (λ c. search needs)
+    (λ c. search needs)
+    part-and-end
+    (λ c κs. search needs)
     (λ c κs. search needs)
     (λ c. search needs)
     returns

@@ -1,4 +1,4 @@
--- `bus::contest::compare` meets its contract. The loop's invariant: the bytes so far are the same.
+-- `line::compare` meets its contract. The loop's invariant: the bytes so far are the same.
 -- Assumes nothing.
 use mathlib.Core.Path.{_≡_, sym}
 use Prim.Native.Nat.{ℕ, _≤_, _<_, _-_}
@@ -9,10 +9,10 @@ use lib.ListN.{length, getD}
 use mir.Syntax.{w8}
 use mir.Val.{Fits}
 use Rattle.crc.proofs.Bits.{below-all}
-use Rattle.bus.proofs.Numbers.{number-less, number-same}
-use Rattle.bus.proofs.Winners.{order-smaller, order-same, order-larger}
-use Rattle.bus.proofs.contest.compare.Statement.{statement}
-use Rattle.bus.proofs.contest.compare.Tie as tie
+use Rattle.line.proofs.Numbers.{number-less, number-same}
+use Rattle.line.proofs.Orders.{order-smaller, order-same, order-larger}
+use Rattle.line.proofs.compare.Statement.{statement}
+use Rattle.line.proofs.compare.Tie as tie
 
 abbrev Inv-loop : tie.InvT-loop
 Inv-loop a b i₀ i = (i ≤ 16) × ((k : ℕ) → k < i → getD a k 0 ≡ getD b k 0)

@@ -11,7 +11,7 @@ use lib.ListN.{length, getD}
 use lib.Seq.{ext-getD}
 use Rattle.crc.proofs.Bits.{onward-is, onward-bits, spelt-lt, bits-below, length-bits}
 use Rattle.crc.specs.Bits.{bits, onward, spelt, Below}
-use Rattle.bus.specs.Contest.{numberOf}
+use Rattle.line.specs.Lowest.{numberOf}
 
 -- a smaller number in front, and as many bits behind it
 onward-less : (s t : ℕ) (a b : List ℕ) → length a ≡ length b → s < t → onward s (bits a) < onward t (bits b)
