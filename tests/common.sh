@@ -12,13 +12,13 @@ work=$(pwd)/target/model
 mkdir -p "$work"
 rustc -O --edition 2021 -o "$work/model" tests/model/main.rs
 
-# Proves and builds cardline and busline, and asks the model to compare itself with them: its words
+# Proves and builds the programs, and asks the model to compare itself with them: its words
 # are those given, and then those that start a program.
 compare() {
     command -v rt >/dev/null || die 'rt is not on the PATH'
-    said=$(rt check cardline busline 2>&1) || {
+    said=$(rt check cardline busline vectors 2>&1) || {
         printf '%s\n' "$said" >&2
-        die 'cardline or busline is not proved, or does not write what its stdout has'
+        die 'a program is not proved, or does not write what its stdout has'
     }
     . tests/kit.sh
     "$work/model" "$@" -- ${emulator:+"$emulator"} "$lib/ld-linux-x86-64.so.2" --library-path "$lib"

@@ -26,7 +26,9 @@ mod hex;
 mod lock;
 mod moves;
 mod program;
+mod requests;
 mod script;
+mod vectors;
 mod walk;
 mod wire;
 
@@ -37,6 +39,8 @@ use std::process::ExitCode;
 
 const USAGE: &str = "use, with PROGRAM either cardline or busline:
     model PROGRAM < SCRIPT                          what the program prints for a script
+    model vectors < REQUESTS                        the same of the program vectors
+    model requests SEED > REQUESTS                  a random script for it
     model generate PROGRAM SEED RECORDS > SCRIPT    a random script
     model unhex < TEXT > SCRIPT                     a script from hex text with comments
     model cover PROGRAM SCRIPT..                    counts what scripts reach; fails if something is never reached
@@ -59,6 +63,8 @@ fn main() -> ExitCode {
 fn answer(words: &[&str]) -> Outcome {
     match words {
         [name @ ("cardline" | "busline")] => print(Program::named(name)?.lines(&input()?).as_bytes()),
+        ["vectors"] => print(vectors::transcript(&String::from_utf8_lossy(&input()?)).as_bytes()),
+        ["requests", seed] => print(requests::script(number(seed)?).as_bytes()),
         ["generate", name, seed, records] => {
             print(&Program::named(name)?.generate(number(seed)?, number(records)? as usize))
         }
