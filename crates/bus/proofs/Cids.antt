@@ -17,10 +17,10 @@ use Rattle.command.specs.Command.{commandOf}
 use Rattle.command.specs.declared.Sent.{Sent}
 use Rattle.crc.proofs.Bits.{octets-bits, octets-below, length-bits}
 use Rattle.crc.specs.Bits.{bits, octets, Below}
-use Rattle.line.proofs.Arbitration.{wins-shown, someone, contested-length, contested-below}
-use Rattle.line.proofs.Together.{OneVoice, one-voice}
-use Rattle.line.specs.Line.{contested, together}
-use Rattle.record.specs.declared.Card.{Card}
+use Rattle.shared_line.proofs.Arbitration.{wins-shown, someone, contested-length, contested-below}
+use Rattle.shared_line.proofs.Together.{OneVoice, one-voice}
+use Rattle.shared_line.specs.Line.{contested, together}
+use Rattle.card_record.specs.declared.Card.{Card}
 use Rattle.wire.specs.Responses.{r2Frame}
 use Rattle.bus.proofs.Sending.{cid-lost, cid-won}
 use Rattle.bus.proofs.Winners.{cid-bitwise}

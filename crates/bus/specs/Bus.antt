@@ -13,12 +13,12 @@ use Rattle.command.specs.Command.{damagedLink, commandOf}
 use Rattle.command.specs.declared.Commanded.{Commanded}
 use Rattle.command.specs.declared.Met.{Met}
 use Rattle.crc.specs.Bits.{bits, octets}
-use Rattle.line.specs.Line.{Sender, contested, wins, together}
+use Rattle.shared_line.specs.Line.{Sender, contested, wins, together}
 use Rattle.moves.specs.Indices.{among}
-use Rattle.record.specs.Making.{refusedMake}
-use Rattle.record.specs.Record.{withLink}
-use Rattle.record.specs.declared.Card.{Card}
-use Rattle.states.specs.States.{columnOf, numberOf}
+use Rattle.card_record.specs.Making.{refusedMake}
+use Rattle.card_record.specs.Record.{withLink}
+use Rattle.card_record.specs.declared.Card.{Card}
+use Rattle.states.specs.States.{columnOf, columnNumber}
 use Rattle.wire.specs.Frames.{framingOf}
 use Rattle.wire.specs.declared.Framing.{Framing}
 use Rattle.wire.specs.declared.Framing.the-variants.{Framed, Unframed}
@@ -67,7 +67,7 @@ putInto bus place card = unless (ltb place (countOf bus)) bus (record { cards = 
 
 -- "In CMD2 every Ready card sends its CID highest bit first"
 abbrev pub isReady : Card → Bool
-isReady card = eqb (numberOf (columnOf (card .link .state))) 1
+isReady card = eqb (columnNumber (columnOf (card .link .state))) 1
 
 abbrev pub cidSender : Card → Sender
 cidSender card = record { on = isReady card; bits = bits (card .registers .cid) }

@@ -7,9 +7,9 @@ use Prim.Native.Nat.{ℕ, max}
 use lib.ListN.{length, take, replicate}
 use Rattle.command.specs.Sending.{sentBytes}
 use Rattle.command.specs.Command.{commandOf}
-use Rattle.line.specs.Bytes.{anded}
-use Rattle.record.specs.Record.{withLink}
-use Rattle.record.specs.declared.Card.{Card}
+use Rattle.shared_line.specs.Bytes.{anded}
+use Rattle.card_record.specs.Record.{withLink}
+use Rattle.card_record.specs.declared.Card.{Card}
 use Rattle.bus.specs.Bus.{cardsOf, withCards, metWith, cardAfter, lineOf, shownOf, padded}
 use Rattle.bus.specs.declared.Bus.{Bus}
 use Rattle.bus.specs.declared.Framed.{Framed}

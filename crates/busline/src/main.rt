@@ -1,6 +1,6 @@
 // Busline: a bus of cards, driven by a script of records on standard input (document 01, "The shared
-// line"). `dock` says what a record does and what is printed of it.
-use lines::parts::part;
+// line"). `busline_records` says what a record does and what is printed of it.
+use text::parts::part;
 
 fn main() {
     let mut script = [0u8; 2097152];
@@ -9,6 +9,6 @@ fn main() {
 
 // The script, read into a buffer and played.
 fn play(buffer: &mut [u8]) {
-    let n = tape::input(buffer);
-    busplayer::play(part(buffer, 0, n));
+    let n = program_io::input(buffer);
+    busline_player::play(part(buffer, 0, n));
 }

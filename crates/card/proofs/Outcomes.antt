@@ -25,8 +25,8 @@ use Rattle.lock.specs.declared.Answer.{Answer}
 use Rattle.lock.specs.declared.Answer.the-variants.{Granted, Erased, Failed}
 use Rattle.lock.specs.declared.Requested.{Requested}
 use Rattle.moves.specs.Indices.{among}
-use Rattle.record.specs.Record.{sizeOf, csdProtects, lengthRead, crosses, withLink, withLock}
-use Rattle.record.specs.declared.Card.{Card}
+use Rattle.card_record.specs.Record.{sizeOf, csdProtects, lengthRead, crosses, withLink, withLock}
+use Rattle.card_record.specs.declared.Card.{Card}
 use Rattle.states.specs.declared.Incoming.{Incoming}
 use Rattle.states.specs.declared.Incoming.the-variants.{One, Many, LockRequest}
 use Rattle.states.specs.declared.Outgoing.{Outgoing}
@@ -37,8 +37,8 @@ use Rattle.status.specs.ErrorBits.{errorBit}
 use Rattle.status.specs.declared.Fault.{Fault}
 use Rattle.status.specs.declared.Fault.the-variants.{None, Bit}
 use Rattle.store.specs.Map.{lentRight, protectedIn}
-use Rattle.wire.specs.Blocks.{carried, told as toldCrc}
-use Rattle.wire.specs.Frames.{crc7Of, field, sentOf, framingOf, checked, frameOf}
+use Rattle.wire.specs.Blocks.{payloadOf, crcIn as toldCrc}
+use Rattle.wire.specs.Frames.{crc7Of, field, fieldsOf, framingOf, checked, frameOf}
 use Rattle.wire.specs.declared.Frame.the-variants.{Command}
 use Rattle.wire.specs.declared.Framing.{Framing}
 use Rattle.wire.specs.declared.Framing.the-variants.{Framed}
@@ -70,7 +70,7 @@ sectors card = sizeOf (card .registers .groups) / 512
 
 -- the answer to the lock request that a block carries
 abbrev pub askedOf : Card → List ℕ → Requested
-askedOf card block = requestOf (card .lock) (carried block) (csdProtects (card .registers .csd))
+askedOf card block = requestOf (card .lock) (payloadOf block) (csdProtects (card .registers .csd))
 
 -- ---- the lists
 -- an awaited block is refused: 16, 17, 18, 19, 20
@@ -139,7 +139,7 @@ module _ (card : Card) (block : List ℕ) (memory : ℕ) (map : List ℕ) where
         (λ u. stores incoming at w on (record { lent = lent; long = long; in-range = ltb-true (at / 512) (sectors card) t; free = not-true _ u })))
 
     carried-outcome : (incoming : Incoming) → card .link .state ≡ Rcv incoming → length block ≡ awaitedLength card incoming + beside
-        → In (carriedOut card incoming (carried block) map)
+        → In (carriedOut card incoming (payloadOf block) map)
     unfolding requestJudged
     carried-outcome (One at) on long = write-outcome (One at) at (one at) on long
     carried-outcome (Many at) on long = write-outcome (Many at) at (many at) on long
@@ -150,7 +150,7 @@ module _ (card : Card) (block : List ℕ) (memory : ℕ) (map : List ℕ) where
     awaited-outcome incoming on =
         guarded In (eqb (length block) (awaitedLength card incoming + beside)) (λ t. refuses incoming (by 16) (Bit (errorBit 29)) on wrong-length)
         (λ t.
-        guarded In (eqb (toldCrc block) (crc16 (carried block))) (λ u. refuses incoming (by 17) None on wrong-crc)
+        guarded In (eqb (toldCrc block) (crc16 (payloadOf block))) (λ u. refuses incoming (by 17) None on wrong-crc)
         (λ u. carried-outcome incoming on (eqb-true (length block) (awaitedLength card incoming + beside) t)))
 
     in-state : (state : State) → card .link .state ≡ state → In (stateJudged card state block map)
@@ -223,8 +223,8 @@ module _ (card : Card) (frame : List ℕ) (memory : ℕ) (map : List ℕ) where
     by-crc index argument true e = commands index argument e lent
     by-crc index argument false e = damaged
 
-    by-bits : (sent : List ℕ) → Reads (sentOf sent)
-    unfolding sentOf
+    by-bits : (sent : List ℕ) → Reads (fieldsOf sent)
+    unfolding fieldsOf
     by-bits sent =
         guarded Reads (eqb (field sent 0 1) 0) (λ t e. unheard 2 refl)
         (λ t.

@@ -17,8 +17,8 @@ use Rattle.lock.specs.Requests.{requestOf}
 use Rattle.lock.specs.declared.Answer.{Answer}
 use Rattle.lock.specs.declared.Answer.the-variants.{Granted, Erased, Failed}
 use Rattle.lock.specs.declared.Lock.{Lock}
-use Rattle.record.specs.Record.{sizeOf, csdProtects, lengthRead, withState, withErrors, withLink, withLock}
-use Rattle.record.specs.declared.Card.{Card}
+use Rattle.card_record.specs.Record.{sizeOf, csdProtects, lengthRead, withState, withErrors, withLink, withLock}
+use Rattle.card_record.specs.declared.Card.{Card}
 use Rattle.states.specs.declared.Incoming.{Incoming}
 use Rattle.states.specs.declared.Incoming.the-variants.{One, Many, LockRequest}
 use Rattle.states.specs.declared.State.{State}
@@ -30,7 +30,7 @@ use Rattle.status.specs.declared.Fault.{Fault}
 use Rattle.status.specs.declared.Fault.the-variants.{None, Bit}
 use Rattle.store.specs.Map.{lentRight, protectedIn, mapCleared}
 use Rattle.store.specs.Memory.{sectorWritten, allErased}
-use Rattle.wire.specs.Blocks.{carried, told}
+use Rattle.wire.specs.Blocks.{payloadOf, crcIn}
 
 -- what a block carries beside its payload: "then CRC16"
 abbrev pub beside : ℕ
@@ -104,8 +104,8 @@ carriedOut card LockRequest payload map = requestJudged card payload
 unfoldable pub awaitedJudged : Card → Incoming → List ℕ → List ℕ → BlockJudged
 awaitedJudged card incoming block map =
     unless (eqb (length block) (awaitedLength card incoming + beside)) (blockRefused card incoming (by 16) (Bit (errorBit 29)))
-    (unless (eqb (told block) (crc16 (carried block))) (blockRefused card incoming (by 17) None)
-    (carriedOut card incoming (carried block) map))
+    (unless (eqb (crcIn block) (crc16 (payloadOf block))) (blockRefused card incoming (by 17) None)
+    (carriedOut card incoming (payloadOf block) map))
 
 -- a block that is not looked at: the record is as it was
 abbrev pub unread : Card → Refusal → BlockJudged

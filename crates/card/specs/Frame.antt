@@ -15,8 +15,8 @@ use Rattle.command.specs.declared.Change.{Change}
 use Rattle.command.specs.declared.Change.the-variants.{Nothing, Protect, Erase}
 use Rattle.command.specs.declared.Commanded.{Commanded}
 use Rattle.command.specs.declared.Met.{Met}
-use Rattle.record.specs.Record.{csdProtects, withErrors, withLink}
-use Rattle.record.specs.declared.Card.{Card}
+use Rattle.card_record.specs.Record.{csdProtects, withErrors, withLink}
+use Rattle.card_record.specs.declared.Card.{Card}
 use Rattle.status.specs.ErrorBits.{errorBit}
 use Rattle.status.specs.Status.{withBit}
 use Rattle.store.specs.Erase.{erased, anySpared}
@@ -62,8 +62,8 @@ sparedTold stepped true =
 sparedTold stepped false = stepped
 
 -- a frame at a card of this record, lent a memory of so many bytes and this map
-unfoldable pub frameOf : Card → List ℕ → ℕ → List ℕ → Stepped
-frameOf card frame memory map =
+unfoldable pub frameStepped : Card → List ℕ → ℕ → List ℕ → Stepped
+frameStepped card frame memory map =
     sparedTold (frameJudged card frame memory map .stepped) (spares card memory map (frameJudged card frame memory map .change))
 
 -- the contents afterwards: "fills every tagged sector outside protection"

@@ -6,17 +6,17 @@ use Prim.Native.Nat.{ℕ}
 use lib.ListN.{length}
 use Rattle.card.specs.BlockIn.{blockJudged, keptOf, storedBy, clearedBy}
 use Rattle.card.specs.BlockOut.{outJudged, sentOut}
-use Rattle.card.specs.Frame.{frameJudged, frameOf, erasedBy, protectedBy}
+use Rattle.card.specs.Frame.{frameJudged, frameStepped, erasedBy, protectedBy}
 use Rattle.card.specs.Replies.{done}
 use Rattle.card.specs.declared.Call.{Call}
 use Rattle.card.specs.declared.Call.the-variants.{Frame, BlockIn, BlockOut, WorkDone, PowerOn}
 use Rattle.card.specs.declared.Stepped.{Stepped}
-use Rattle.record.specs.Power.{poweredOn, worked}
-use Rattle.record.specs.declared.Card.{Card}
+use Rattle.card_record.specs.Power.{poweredOn, worked}
+use Rattle.card_record.specs.declared.Card.{Card}
 
 -- card, call, input, bytes of memory, map, bytes of output: the next record and the answer. "Work done .. is never refused"
 abbrev pub stepOf : Card → Call → List ℕ → ℕ → List ℕ → ℕ → Stepped
-stepOf card Frame input memory map room = frameOf card input memory map
+stepOf card Frame input memory map room = frameStepped card input memory map
 stepOf card BlockIn input memory map room = blockJudged card input memory map .stepped
 stepOf card BlockOut input memory map room = outJudged card memory map room .stepped
 stepOf card WorkDone input memory map room = done (worked card)

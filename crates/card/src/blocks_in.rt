@@ -6,9 +6,9 @@ use crate::Storing;
 use crate::replies::done;
 use crate::replies::refuse;
 use base::Refusal;
+use card_record::Card;
+use card_record::Link;
 use lock::Answer;
-use record::Card;
-use record::Link;
 use states::Incoming;
 use states::State;
 use status::ErrorBit;
@@ -27,7 +27,7 @@ fn awaited_length(card: Card, incoming: Incoming) -> usize
     match incoming {
         Incoming::One(_) => 512,
         Incoming::Many(_) => 512,
-        Incoming::LockRequest => record::read_length(card.link.length) as usize,
+        Incoming::LockRequest => card_record::read_length(card.link.length) as usize,
     }
 }
 
@@ -101,7 +101,7 @@ fn write_judged(card: Card, incoming: Incoming, sector: u32, map: &[u8]) -> Bloc
     ensures { λ r. ⌜ r ≡ writeJudged card incoming sector (now (map .entry)) ⌝ }
 {
     let registers = card.registers;
-    if record::size(registers.groups) / 512 <= sector {
+    if card_record::size(registers.groups) / 512 <= sector {
         return block_refused(
             card,
             incoming,
@@ -110,7 +110,7 @@ fn write_judged(card: Card, incoming: Incoming, sector: u32, map: &[u8]) -> Bloc
         );
     }
     let csd = registers.csd;
-    let whole = record::csd_protects(csd);
+    let whole = card_record::csd_protects(csd);
     if store::protected(map, sector, whole) {
         return block_refused(
             card,
@@ -129,7 +129,7 @@ fn lock_judged(card: Card, payload: &[u8]) -> BlockJudged
 {
     let registers = card.registers;
     let csd = registers.csd;
-    let whole = record::csd_protects(csd);
+    let whole = card_record::csd_protects(csd);
     let lock = card.lock;
     let requested = lock::request(lock, payload, whole);
     let changed = requested.lock;

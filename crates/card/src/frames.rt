@@ -5,17 +5,17 @@ use crate::Reply;
 use crate::Stepped;
 use crate::replies::refuse;
 use base::Refusal;
+use card_record::Card;
+use card_record::Link;
 use command::Change;
 use command::Met;
-use record::Card;
-use record::Link;
 use status::ErrorBit;
 use wire::Framing;
 ghost use mathlib.Core.Path.{_≡_};
 ghost use lib.ListN.{length};
-ghost use Rattle.card.specs.Frame.{frameRefused, commanded, frameJudged, sparedTold, frameOf, erasedBy, protectedBy, metAlone};
+ghost use Rattle.card.specs.Frame.{frameRefused, commanded, frameJudged, sparedTold, frameStepped, erasedBy, protectedBy, metAlone};
 ghost use Rattle.command.specs.Command.{damagedLink, commandOf};
-ghost use Rattle.record.specs.Record.{withLink};
+ghost use Rattle.card_record.specs.Record.{withLink};
 
 fn unheard(card: Card, refusal: Refusal) -> FrameJudged
     ensures { λ r. ⌜ r ≡ frameRefused card refusal ⌝ }
@@ -111,7 +111,7 @@ fn tell_spared(stepped: Stepped, spared: bool) -> Stepped
 
 // A frame at a card: judged, and then carried out on what is lent.
 pub fn frame(card: Card, frame: &[u8], memory: &mut [u8], map: &mut [u8]) -> Stepped
-    ensures answer { λ r. ⌜ r ≡ frameOf card (now (frame .entry)) (length (now (memory .entry))) (now (map .entry)) ⌝ }
+    ensures answer { λ r. ⌜ r ≡ frameStepped card (now (frame .entry)) (length (now (memory .entry))) (now (map .entry)) ⌝ }
     ensures memory { λ _. ⌜ now (memory .exit) ≡ erasedBy card (now (memory .entry)) (now (map .entry)) (frameJudged card (now (frame .entry)) (length (now (memory .entry))) (now (map .entry)) .change) ⌝ }
     ensures map { λ _. ⌜ now (map .exit) ≡ protectedBy (now (map .entry)) (frameJudged card (now (frame .entry)) (length (now (memory .entry))) (now (map .entry)) .change) ⌝ }
 {
@@ -127,7 +127,7 @@ pub fn frame(card: Card, frame: &[u8], memory: &mut [u8], map: &mut [u8]) -> Ste
         Change::Erase => {
             let registers = card.registers;
             let csd = registers.csd;
-            let whole = record::csd_protects(csd);
+            let whole = card_record::csd_protects(csd);
             let link = card.link;
             let tags = link.tags;
             let spared = store::erase(memory, map, tags, whole);

@@ -13,10 +13,10 @@ mod replies;
 use base::Refusal;
 pub use blocks_in::block_in;
 pub use blocks_out::block_out;
+use card_record::Card;
 use command::Change;
 use command::Sent;
 pub use frames::frame;
-use record::Card;
 use replies::done;
 ghost use mathlib.Core.Path.{_≡_};
 ghost use lib.ListN.{length};
@@ -101,7 +101,7 @@ pub fn step(
         Call::Frame => frame(card, input, memory, map),
         Call::BlockIn => block_in(card, input, memory, map),
         Call::BlockOut => block_out(card, memory, map, out),
-        Call::WorkDone => done(record::work_done(card)),
-        Call::PowerOn => done(record::power_on(card)),
+        Call::WorkDone => done(card_record::work_done(card)),
+        Call::PowerOn => done(card_record::power_on(card)),
     }
 }

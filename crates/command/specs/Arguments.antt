@@ -7,7 +7,7 @@ use Prim.Native.Nat.{ℕ, _+_, _/_, _%_}
 use lib.Dec.{eqb, leb, ltb}
 use Rattle.base.specs.Choice.{pick, unless}
 use Rattle.moves.specs.Indices.{among}
-use Rattle.record.specs.Record.{longest, crosses}
+use Rattle.card_record.specs.Record.{longest, crosses}
 use Rattle.status.specs.ErrorBits.{errorBit}
 use Rattle.status.specs.declared.Fault.{Fault}
 use Rattle.status.specs.declared.Fault.the-variants.{None, Bit}

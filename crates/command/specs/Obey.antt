@@ -7,8 +7,8 @@ use lib.Dec.{eqb}
 use Rattle.base.specs.Choice.{pick, unless}
 use Rattle.moves.specs.Classes.{classOf, classNumber}
 use Rattle.moves.specs.Indices.{among}
-use Rattle.record.specs.Record.{sizeOf, lengthRead}
-use Rattle.record.specs.declared.Link.{Link}
+use Rattle.card_record.specs.Record.{sizeOf, lengthRead}
+use Rattle.card_record.specs.declared.Link.{Link}
 use Rattle.states.specs.declared.Column.{Column}
 use Rattle.states.specs.declared.Column.the-variants.{Idle as ToIdle, Ready as ToReady, Ident as ToIdent, Stby as ToStby, Tran as ToTran, Data as ToData, Rcv as ToRcv, Prg as ToPrg, Dis as ToDis, Ina as ToIna}
 use Rattle.states.specs.declared.Incoming.the-variants.{One as OneIn, Many as ManyIn, LockRequest}
@@ -17,7 +17,7 @@ use Rattle.states.specs.declared.State.{State}
 use Rattle.states.specs.declared.State.the-variants.{Idle, Ready, Ident, Stby, Tran, Data, Rcv, Prg, Dis, Ina}
 use Rattle.status.specs.ErrorBits.{errorBit}
 use Rattle.status.specs.declared.Fault.the-variants.{None}
-use Rattle.tags.specs.Tagging.{noTags, failed, startTagged, endTagged}
+use Rattle.tags.specs.Tagging.{noTags, tagFailed, startTagged, endTagged}
 use Rattle.tags.specs.Tags.{eraseOf}
 use Rattle.tags.specs.declared.Kind.the-variants.{Sectors, Groups}
 use Rattle.tags.specs.declared.Tagging.{Tagging}
@@ -43,7 +43,7 @@ leaving tags = record { tags = tags; error = None }
 -- "CMD38 needs both (28) .. drops tags"
 abbrev pub erasing : ToErase → Tagging
 erasing (FromTo first last) = leaving noTags
-erasing (Error bit) = failed bit
+erasing (Error bit) = tagFailed bit
 
 abbrev pub eraseTagging : Tags → Tagging
 eraseTagging tags = erasing (eraseOf tags)
@@ -63,7 +63,7 @@ taggingOf link size index argument =
 -- checks 5 and 6, in this order: "others answer R1 with bit 24, no move". Tags go there too, in 32 to 38 as in the others
 unfoldable pub judgedOf : Link → ℕ → Bool → ℕ → ℕ → Tagging
 judgedOf link groups locked index argument =
-    unless (passesLock locked index) (failed (errorBit 24)) (taggingOf link (sizeOf groups) index argument)
+    unless (passesLock locked index) (tagFailed (errorBit 24)) (taggingOf link (sizeOf groups) index argument)
 
 -- the state that a column of the table stands for: "Data states carry what they wait for", so there it is the one that carries the work
 abbrev pub stateAt : Column → State → State

@@ -1,8 +1,8 @@
 // What a command does to a card, whatever mode it came in: the checks of the lock and of the
 // argument, the tags that it leaves, the next link, and what it changes in what is lent.
 use crate::Change;
+use card_record::Link;
 use moves::Class;
-use record::Link;
 use states::Column;
 use states::Incoming;
 use states::Outgoing;
@@ -76,7 +76,7 @@ fn read_fault(argument: u32, length: u16, size: u32) -> Fault
     if (size as u64) < end {
         return Fault::Bit(ErrorBit::OutOfRange);
     }
-    if record::crosses(argument, length) {
+    if card_record::crosses(argument, length) {
         return Fault::Bit(ErrorBit::AddressError);
     }
     Fault::None
@@ -171,7 +171,7 @@ fn tagging(link: Link, size: u32, index: u8, argument: u32) -> Tagging
         38 => erase_tagging(held),
         _ => Tagging {
             tags: tags::no_tags(),
-            error: argument_fault(index, argument, record::read_length(link.length), size),
+            error: argument_fault(index, argument, card_record::read_length(link.length), size),
         },
     }
 }
@@ -186,7 +186,7 @@ pub fn judge(link: Link, groups: u16, locked: bool, index: u8, argument: u32) ->
             error: Fault::Bit(ErrorBit::LockUnlockFailed),
         };
     }
-    tagging(link, record::size(groups), index, argument)
+    tagging(link, card_record::size(groups), index, argument)
 }
 
 // The state of a column: in data and rcv it is the one that carries the work.

@@ -1,7 +1,7 @@
 // Corpus: the scripts of data/, under a heading each: those of bus/ are played as busline plays them,
 // the others, of card/, as cardline does. Some are written by hand, the others are random; stdout is
 // what the model wrote for all of them, and `tests/corpus` makes it again.
-use lines::parts::part;
+use text::parts::part;
 
 fn main() {
     let n = os::arg_count();
@@ -12,19 +12,19 @@ fn main() {
     }
 }
 
-// The script that an argument names. `tape` reads 65,536 characters, so no script is longer.
+// The script that an argument names. `program_io` reads 65,536 characters, so no script is longer.
 fn script(i: usize) {
     let mut bytes = [0u8; 32768];
     play(i, &mut bytes);
 }
 
 fn play(i: usize, bytes: &mut [u8]) {
-    let n = tape::named(i, bytes);
+    let n = program_io::named(i, bytes);
     let script = part(bytes, 0, n);
     if for_bus(i) {
-        busplayer::play(script);
+        busline_player::play(script);
     } else {
-        player::play(script);
+        cardline_player::play(script);
     }
 }
 

@@ -8,7 +8,7 @@ use mathlib.Core.List.{List}
 use Prim.Native.Nat.{ℕ}
 use native.Mathlib.Nat.{mod-eq-of-lt}
 use lib.Dec.{eqb}
-use Rattle.record.specs.declared.Card.{Card}
+use Rattle.card_record.specs.declared.Card.{Card}
 use Rattle.states.specs.declared.Incoming.the-variants.{One as OneIn, Many as ManyIn, LockRequest}
 use Rattle.states.specs.declared.Outgoing.the-variants.{One, Many, Protection}
 use Rattle.states.specs.declared.State.{State}
@@ -17,9 +17,9 @@ use Rattle.tags.specs.Tagging.{tagsOf}
 use Rattle.tags.specs.declared.Kind.the-variants.{Sectors, Groups}
 use Rattle.tags.specs.declared.Range.{Range}
 use Rattle.tags.specs.declared.Range.the-variants.{Nothing, Start, Full}
-use Rattle.crossing.specs.Record.{stateOf, tagsBy, cardOf, stateNumber, stateAt, tagsNumber, firstOf, lastOf, flag, numbersOf, Within}
+use Rattle.crossing.specs.Record.{stateOf, tagsBy, cardOf, stateNumber, placeCarried, tagsNumber, firstOf, lastOf, flag, numbersOf, Within}
 
-state-crosses : (state : State) → stateOf (stateNumber state) (stateAt state) ≡ state
+state-crosses : (state : State) → stateOf (stateNumber state) (placeCarried state) ≡ state
 unfolding stateOf
 state-crosses Idle = refl
 state-crosses Ready = refl

@@ -14,8 +14,8 @@ use native.Mathlib.Omega.{arith}
 use lib.ListN.{getD, replicate}
 use Rattle.base.proofs.Cases.{clash, never}
 use Rattle.lock.specs.Passwords.{holding}
-use Rattle.record.specs.Making.{refusedMake}
-use Rattle.record.specs.declared.Card.{Card}
+use Rattle.card_record.specs.Making.{refusedMake}
+use Rattle.card_record.specs.declared.Card.{Card}
 use Rattle.states.specs.declared.State.the-variants.{Idle}
 use Rattle.tags.specs.declared.Kind.the-variants.{Groups}
 use Rattle.tags.specs.declared.Range.the-variants.{Full}

@@ -7,7 +7,7 @@ use Prim.Native.Nat.{ℕ, _%_, _<_}
 use lib.Dec.{eqb}
 use lib.ListN.{getD}
 use Rattle.base.specs.Choice.{pick}
-use Rattle.record.specs.declared.Card.{Card}
+use Rattle.card_record.specs.declared.Card.{Card}
 use Rattle.states.specs.declared.Incoming.{Incoming}
 use Rattle.states.specs.declared.Incoming.the-variants.{One as OneIn, Many as ManyIn, LockRequest}
 use Rattle.states.specs.declared.Outgoing.{Outgoing}
@@ -95,17 +95,17 @@ incomingAt (OneIn at) = at
 incomingAt (ManyIn at) = at
 incomingAt LockRequest = 0
 
-abbrev pub stateAt : State → ℕ
-stateAt Idle = 0
-stateAt Ready = 0
-stateAt Ident = 0
-stateAt Stby = 0
-stateAt Tran = 0
-stateAt (Data outgoing) = outgoingAt outgoing
-stateAt (Rcv incoming) = incomingAt incoming
-stateAt Prg = 0
-stateAt Dis = 0
-stateAt Ina = 0
+abbrev pub placeCarried : State → ℕ
+placeCarried Idle = 0
+placeCarried Ready = 0
+placeCarried Ident = 0
+placeCarried Stby = 0
+placeCarried Tran = 0
+placeCarried (Data outgoing) = outgoingAt outgoing
+placeCarried (Rcv incoming) = incomingAt incoming
+placeCarried Prg = 0
+placeCarried Dis = 0
+placeCarried Ina = 0
 
 abbrev pub startNumber : Kind → ℕ
 startNumber Sectors = 1
@@ -136,7 +136,7 @@ flag is = pick is 1 0
 -- the twelve numbers of a record, in the order in which mmc.h names them
 unfoldable pub numbersOf : Card → List ℕ
 numbersOf card =
-    stateNumber (card .link .state) ∷ stateAt (card .link .state) ∷ card .link .address ∷ card .link .length ∷ card .link .errors .bits ∷
+    stateNumber (card .link .state) ∷ placeCarried (card .link .state) ∷ card .link .address ∷ card .link .length ∷ card .link .errors .bits ∷
     tagsNumber (card .link .tags .range) ∷ firstOf (card .link .tags .range) ∷ lastOf (card .link .tags .range) ∷ flag (card .lock .locked) ∷
     card .lock .length ∷ card .registers .groups ∷ card .registers .ocr ∷ []
 

@@ -1,10 +1,10 @@
 // The record that numbers and bytes stand for. Any numbers stand for one, so that no call asks
 // anything of them: a number that is wider than its field counts by its low bits, and a state or
 // tags of no name read as Inactive and as none.
+use card_record::Card;
+use card_record::Link;
+use card_record::Registers;
 use lock::Lock;
-use record::Card;
-use record::Link;
-use record::Registers;
 use states::Incoming;
 use states::Outgoing;
 use states::State;

@@ -1,12 +1,12 @@
 // A record told in numbers.
-use record::Card;
+use card_record::Card;
 use states::Incoming;
 use states::Outgoing;
 use states::State;
 use tags::Kind;
 use tags::Range;
 ghost use mathlib.Core.Path.{_≡_};
-ghost use Rattle.crossing.specs.Record.{outgoingNumber, incomingNumber, stateNumber, outgoingAt, incomingAt, stateAt, startNumber, fullNumber, tagsNumber, firstOf, lastOf, flag, cardOf, numbersOf};
+ghost use Rattle.crossing.specs.Record.{outgoingNumber, incomingNumber, stateNumber, outgoingAt, incomingAt, placeCarried, startNumber, fullNumber, tagsNumber, firstOf, lastOf, flag, cardOf, numbersOf};
 
 fn outgoing_number(outgoing: Outgoing) -> u32
     ensures { λ r. ⌜ r ≡ outgoingNumber outgoing ⌝ }
@@ -67,7 +67,7 @@ fn incoming_at(incoming: Incoming) -> u32
 
 // The place that a state carries, and 0 where it carries none.
 fn state_at(state: State) -> u32
-    ensures { λ r. ⌜ r ≡ stateAt state ⌝ }
+    ensures { λ r. ⌜ r ≡ placeCarried state ⌝ }
 {
     match state {
         State::Idle => 0,

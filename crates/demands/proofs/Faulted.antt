@@ -14,7 +14,7 @@ use Rattle.base.proofs.Cases.{cases, clash}
 use Rattle.base.specs.Choice.{pick, unless}
 use Rattle.card.specs.Frame.{metAlone}
 use Rattle.command.specs.Answers.{answered, silent}
-use Rattle.command.specs.Command.{askedOf, takenOf, concluded, resetTold, commandOf}
+use Rattle.command.specs.Command.{receivedOf, takenOf, concluded, resetTold, commandOf}
 use Rattle.command.specs.Obey.{passesLock, taggingOf, judgedOf}
 use Rattle.command.specs.declared.Change.the-variants.{Nothing}
 use Rattle.command.specs.declared.Commanded.{Commanded}
@@ -23,12 +23,12 @@ use Rattle.command.specs.declared.Response.{Response}
 use Rattle.command.specs.declared.Response.the-variants.{R1}
 use Rattle.moves.specs.Indices.{among}
 use Rattle.moves.specs.Rows.{rowOf}
-use Rattle.moves.specs.declared.Asked.{Asked}
+use Rattle.moves.specs.declared.Received.{Received}
 use Rattle.moves.specs.declared.Move.the-variants.{To}
-use Rattle.record.specs.Power.{freshLink}
-use Rattle.record.specs.Record.{sizeOf, withTags}
-use Rattle.record.specs.declared.Card.{Card}
-use Rattle.record.specs.declared.Link.{Link}
+use Rattle.card_record.specs.Power.{freshLink}
+use Rattle.card_record.specs.Record.{sizeOf, withTags}
+use Rattle.card_record.specs.declared.Card.{Card}
+use Rattle.card_record.specs.declared.Link.{Link}
 use Rattle.states.specs.States.{columnOf}
 use Rattle.states.specs.declared.Column.{Column}
 use Rattle.status.proofs.ErrorTheorems.{set-shows, named-shown}
@@ -39,7 +39,7 @@ use Rattle.status.specs.Status.{withBit, wordOf}
 use Rattle.status.specs.declared.ErrorBit.{ErrorBit}
 use Rattle.status.specs.declared.Errors.{Errors}
 use Rattle.status.specs.declared.Fault.the-variants.{None, Bit}
-use Rattle.tags.specs.Tagging.{noTags, failed}
+use Rattle.tags.specs.Tagging.{noTags, tagFailed}
 use Rattle.tags.specs.declared.Tagging.{Tagging}
 use Rattle.tags.specs.declared.Tags.{Tags}
 use Rattle.demands.specs.Faulted.{fault, Faulted}
@@ -57,8 +57,8 @@ bit-shown e bit locked on =
 
 module _ (link : Link) (met : Met) (index argument : ℕ) (column : Column) (bit : ErrorBit) (taken : Taken link met index argument column)
     (faults : fault link met index argument ≡ Bit bit) where
-  abbrev asked : Asked
-  asked = askedOf link met index argument
+  abbrev asked : Received
+  asked = receivedOf link met index argument
 
   abbrev tagging : Tagging
   tagging = judgedOf link (met .groups) (met .locked) index argument
@@ -120,7 +120,7 @@ lock-fault : (link : Link) (met : Met) (index argument : ℕ) → passesLock (me
     → fault link met index argument ≡ Bit (errorBit 24)
 unfolding judgedOf
 lock-fault link met index argument stopped =
-    ap (λ (t : Bool). unless t (failed (errorBit 24)) (taggingOf link (sizeOf (met .groups)) index argument) .error) stopped
+    ap (λ (t : Bool). unless t (tagFailed (errorBit 24)) (taggingOf link (sizeOf (met .groups)) index argument) .error) stopped
 
 pub only-passes-lock : (link : Link) (met : Met) (index argument : ℕ) (column : Column)
     → Taken link met index argument column → passesLock (met .locked) index ≡ false

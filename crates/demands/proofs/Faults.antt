@@ -24,13 +24,13 @@ use Rattle.moves.specs.Classes.{classOf}
 use Rattle.moves.specs.Indices.{among}
 use Rattle.moves.specs.Moves.{inRow, moveOf}
 use Rattle.moves.specs.Rows.{own, transferRow, rowOf}
-use Rattle.moves.specs.declared.Asked.{Asked}
+use Rattle.moves.specs.declared.Received.{Received}
 use Rattle.moves.specs.declared.Move.{Move}
 use Rattle.moves.specs.declared.Move.the-variants.{Ignored, Silent, Illegal, To}
 use Rattle.moves.specs.declared.Row.{Row}
 use Rattle.moves.specs.declared.Row.the-variants.{SetRelativeAddr, StopTransmission, SendStatus, SetOrTag, Read, Write, Program, OtherAddress, Unsupported}
-use Rattle.record.specs.Record.{sizeOf}
-use Rattle.record.specs.declared.Link.{Link}
+use Rattle.card_record.specs.Record.{sizeOf}
+use Rattle.card_record.specs.declared.Link.{Link}
 use Rattle.states.specs.declared.Column.{Column}
 use Rattle.status.specs.declared.Fault.the-variants.{None}
 use Rattle.tags.proofs.TagTheorems.{Drops, start-error-drops, end-error-drops}
@@ -105,7 +105,7 @@ judging = SetRelativeAddr ∷ StopTransmission ∷ SendStatus ∷ OtherAddress �
 abbrev pub Judging : Row → Type 0
 Judging row = inRow row judging ≡ true
 
-module _ (asked : Asked) (others : among (asked .index) faultless ≡ false) where
+module _ (asked : Received) (others : among (asked .index) faultless ≡ false) where
   Listed : ℕ → Type 0
   Listed k = among k faultless ≡ true
 

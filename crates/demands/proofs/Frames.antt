@@ -10,7 +10,7 @@ use Prim.Native.Nat.{ℕ}
 use lib.ListN.{length}
 use Rattle.base.specs.Choice.{unless}
 use Rattle.base.specs.Refusals.{by}
-use Rattle.card.specs.Frame.{metAlone, frameRefused, commanded, framed, frameJudged, frameOf, spares, sparedTold, erasedBy, protectedBy}
+use Rattle.card.specs.Frame.{metAlone, frameRefused, commanded, framed, frameJudged, frameStepped, spares, sparedTold, erasedBy, protectedBy}
 use Rattle.card.specs.Replies.{done}
 use Rattle.card.specs.Step.{stepOf}
 use Rattle.card.specs.declared.Call.the-variants.{Frame}
@@ -20,8 +20,8 @@ use Rattle.command.specs.Command.{commandOf}
 use Rattle.command.specs.declared.Change.{Change}
 use Rattle.command.specs.declared.Change.the-variants.{Nothing}
 use Rattle.command.specs.declared.Commanded.{Commanded}
-use Rattle.record.specs.declared.Card.{Card}
-use Rattle.record.specs.declared.Link.{Link}
+use Rattle.card_record.specs.declared.Card.{Card}
+use Rattle.card_record.specs.declared.Link.{Link}
 use Rattle.wire.proofs.FrameTheorems.{framing}
 use Rattle.wire.specs.Frames.{framingOf}
 use Rattle.wire.specs.Frames as wire
@@ -38,7 +38,7 @@ module _ (card : Card) (frame memory map out : List ℕ) (index argument : ℕ) 
       ∙ ap (framed card) (framing (framingOf frame) index argument (reads .command))
 
   pub unlent : given .change ≡ Nothing → Unlent card frame memory map out given
-  unfolding frameOf
+  unfolding frameStepped
   unlent same =
       let kept : frameJudged card frame (length memory) map .change ≡ Nothing = ap (λ (j : FrameJudged). j .change) judged ∙ same in
       record {

@@ -7,7 +7,7 @@ use Prim.Native.Nat.{ℕ}
 use Rattle.base.proofs.Cases.{guarded}
 use Rattle.card.specs.BlockIn.{stateJudged, blockJudged}
 use Rattle.card.specs.BlockOut.{stateSends, outJudged}
-use Rattle.card.specs.Frame.{metAlone, framed, frameJudged, frameOf, spares, sparedTold}
+use Rattle.card.specs.Frame.{metAlone, framed, frameJudged, frameStepped, spares, sparedTold}
 use Rattle.card.specs.Step.{stepOf}
 use Rattle.card.specs.declared.BlockJudged.{BlockJudged}
 use Rattle.card.specs.declared.Call.{Call}
@@ -17,8 +17,8 @@ use Rattle.card.specs.declared.OutJudged.{OutJudged}
 use Rattle.command.specs.Command.{damagedLink}
 use Rattle.command.specs.declared.Change.{Change}
 use Rattle.command.specs.declared.Change.the-variants.{Nothing}
-use Rattle.record.specs.Power.{worked}
-use Rattle.record.specs.declared.Card.{Card}
+use Rattle.card_record.specs.Power.{worked}
+use Rattle.card_record.specs.declared.Card.{Card}
 use Rattle.states.specs.declared.State.{State}
 use Rattle.states.specs.declared.State.the-variants.{Ina}
 use Rattle.store.specs.Map.{lentRight}
@@ -45,7 +45,7 @@ module _ (card : Card) (ina : card .link .state ≡ Ina) where
 
   pub inactive-ends : (call : Call) → (call ≡ PowerOn → ⊥) → (input : List ℕ) (memory : ℕ) (map : List ℕ) (room : ℕ)
       → stepOf card call input memory map room .card ≡ card
-  unfolding frameOf blockJudged outJudged worked
+  unfolding frameStepped blockJudged outJudged worked
   inactive-ends Frame other input memory map room =
       let (same, kept) = frame-stays input memory map in
       ap (λ (c : Change). sparedTold (frameJudged card input memory map .stepped) (spares card memory map c) .card) kept ∙ same

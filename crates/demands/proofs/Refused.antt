@@ -16,7 +16,7 @@ use Rattle.base.specs.declared.Refusal.{Refusal}
 use Rattle.card.proofs.Outcomes.{Refuses as Awaited, wrong-length, wrong-crc, past-end, protected, failed, InOutcome, unreads, refuses, stores, grants, forces, OutOutcome, unsends, past, across, sends, FrameOutcome, unheard, damaged, commands, block-outcome, out-outcome, frame-outcome, told}
 use Rattle.card.specs.BlockIn.{afterRefused, withFault, blockRefused, blockGood, keptOf, storedBy, clearedBy}
 use Rattle.card.specs.BlockOut.{outRefused, outGood, sentOut}
-use Rattle.card.specs.Frame.{metAlone, commanded, frameOf, erasedBy, protectedBy, spares, sparedTold}
+use Rattle.card.specs.Frame.{metAlone, commanded, frameStepped, erasedBy, protectedBy, spares, sparedTold}
 use Rattle.card.specs.Replies.{refused}
 use Rattle.card.specs.Step.{stepOf}
 use Rattle.card.specs.declared.BlockJudged.{BlockJudged}
@@ -34,8 +34,8 @@ use Rattle.command.specs.declared.Commanded.{Commanded}
 use Rattle.command.specs.declared.Sent.the-variants.{Nothing}
 use Rattle.moves.proofs.Among.{each}
 use Rattle.moves.specs.Indices.{among}
-use Rattle.record.specs.Record.{withState, withErrors, withLink}
-use Rattle.record.specs.declared.Card.{Card}
+use Rattle.card_record.specs.Record.{withState, withErrors, withLink}
+use Rattle.card_record.specs.declared.Card.{Card}
 use Rattle.states.specs.States.{columnOf}
 use Rattle.states.specs.States.{numberOf as placeOf}
 use Rattle.states.specs.declared.Incoming.{Incoming}
@@ -132,7 +132,7 @@ module _ (card : Card) (r : Refusal) where
 
 pub refused-by-number : (card : Card) (call : Call) (input memory map out : List ℕ) (r : Refusal)
     → Refuses card call input memory map out r → ByNumber card call input memory map out r
-unfolding frameOf
+unfolding frameStepped
 refused-by-number card Frame input memory map out r e =
     let (l, same) = frame-left card r input (length memory) map (frame-outcome card input (length memory) map) e in
     record {

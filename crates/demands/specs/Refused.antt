@@ -17,8 +17,8 @@ use Rattle.card.specs.declared.Outcome.the-variants.{Refused}
 use Rattle.command.specs.declared.Sent.the-variants.{Nothing}
 use Rattle.moves.specs.Indices.{among}
 use Rattle.moves.specs.Moves.{inState}
-use Rattle.record.specs.Record.{withState, withErrors, withLink}
-use Rattle.record.specs.declared.Card.{Card}
+use Rattle.card_record.specs.Record.{withState, withErrors, withLink}
+use Rattle.card_record.specs.declared.Card.{Card}
 use Rattle.states.specs.States.{columnOf}
 use Rattle.states.specs.declared.Column.the-variants as column
 use Rattle.states.specs.declared.Incoming.the-variants.{One, Many, LockRequest}

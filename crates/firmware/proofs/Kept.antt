@@ -12,18 +12,18 @@ use Prim.Native.Nat.{ℕ}
 use Rattle.card.proofs.Outcomes.{OutOutcome, unsends, past, across, sends, FrameOutcome, unheard, damaged, commands, out-outcome, frame-outcome, told}
 use Rattle.card.specs.BlockIn.{blockJudged}
 use Rattle.card.specs.BlockOut.{outRefused, outGood, outJudged}
-use Rattle.card.specs.Frame.{frameJudged, spares, frameOf}
+use Rattle.card.specs.Frame.{frameJudged, spares, frameStepped}
 use Rattle.card.specs.declared.Call.the-variants.{Frame, BlockIn, BlockOut}
 use Rattle.card.specs.declared.FrameJudged.{FrameJudged}
 use Rattle.card.specs.declared.OutJudged.{OutJudged}
 use Rattle.card.specs.declared.Stepped.{Stepped}
 use Rattle.lock.specs.Passwords.{poweredOf}
 use Rattle.made.proofs.Registers.{registers-kept}
-use Rattle.record.specs.Power.{poweredOn, worked}
-use Rattle.record.specs.declared.Card.{Card}
+use Rattle.card_record.specs.Power.{poweredOn, worked}
+use Rattle.card_record.specs.declared.Card.{Card}
 
 module _ (card : Card) where
-  pub frame-registers : (frame : List ℕ) (memory : ℕ) (map : List ℕ) → frameOf card frame memory map .card .registers ≡ card .registers
+  pub frame-registers : (frame : List ℕ) (memory : ℕ) (map : List ℕ) → frameStepped card frame memory map .card .registers ≡ card .registers
   frame-registers frame memory map = registers-kept card Frame frame memory map 0
 
   frame-same : (frame : List ℕ) (memory : ℕ) (map : List ℕ) {judged : FrameJudged} → FrameOutcome card frame memory map judged
@@ -32,8 +32,8 @@ module _ (card : Card) where
   frame-same frame memory map damaged = refl
   frame-same frame memory map (commands index argument is lent) = refl
 
-  pub frame-lock : (frame : List ℕ) (memory : ℕ) (map : List ℕ) → frameOf card frame memory map .card .lock ≡ card .lock
-  unfolding frameOf
+  pub frame-lock : (frame : List ℕ) (memory : ℕ) (map : List ℕ) → frameStepped card frame memory map .card .lock ≡ card .lock
+  unfolding frameStepped
   frame-lock frame memory map =
       let same = frame-same frame memory map (frame-outcome card frame memory map) in
       told (λ (s : Stepped). s .card .lock ≡ card .lock) (frameJudged card frame memory map .stepped)

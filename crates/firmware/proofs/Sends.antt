@@ -6,12 +6,12 @@ use Prim.Native.Nat.{ℕ, _≤_}
 use native.Mathlib.Omega.{arith}
 use Rattle.command.proofs.Sends.{sendable}
 use Rattle.card.proofs.Outcomes.{FrameOutcome, unheard, damaged, commands, frame-outcome, told}
-use Rattle.card.specs.Frame.{metAlone, frameJudged, spares, frameOf}
+use Rattle.card.specs.Frame.{metAlone, frameJudged, spares, frameStepped}
 use Rattle.command.specs.Sending.{Sendable}
 use Rattle.card.specs.declared.FrameJudged.{FrameJudged}
 use Rattle.card.specs.declared.Stepped.{Stepped}
 use Rattle.crc.specs.Bits.{Below}
-use Rattle.record.specs.declared.Card.{Card}
+use Rattle.card_record.specs.declared.Card.{Card}
 use Rattle.wire.proofs.FrameTheorems.{write-after-read}
 
 module _ (card : Card) (frame : List ℕ) (memory : ℕ) (map : List ℕ) (bytes : Below 256 frame) where
@@ -22,8 +22,8 @@ module _ (card : Card) (frame : List ℕ) (memory : ℕ) (map : List ℕ) (bytes
       let small : index ≤ 63 = omega (arith, write-after-read frame bytes index argument is .0) in
       sendable (card .link) (metAlone card) index argument small
 
-  pub frame-sendable : Sendable (frameOf card frame memory map .reply .sent)
-  unfolding frameOf
+  pub frame-sendable : Sendable (frameStepped card frame memory map .reply .sent)
+  unfolding frameStepped
   frame-sendable =
       let same = judged-sendable (frame-outcome card frame memory map) in
       told (λ (s : Stepped). Sendable (s .reply .sent)) (frameJudged card frame memory map .stepped)

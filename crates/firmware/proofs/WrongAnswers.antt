@@ -28,8 +28,8 @@ use Rattle.card.specs.declared.Outcome.the-variants.{Wrote, Refused as Unsent}
 use Rattle.crc.specs.Bits.{bits}
 use Rattle.crc.specs.Crc.{divide, remainder, checkSum, crc7, crc16}
 use Rattle.crossing.specs.Record.{stateOf, cardOf, numbersOf}
-use Rattle.record.specs.Power.{freshLink, poweredOn, worked}
-use Rattle.record.specs.declared.Card.{Card}
+use Rattle.card_record.specs.Power.{freshLink, poweredOn, worked}
+use Rattle.card_record.specs.declared.Card.{Card}
 use Rattle.store.specs.Map.{entriesRight}
 use Rattle.wire.specs.declared.Checked.the-variants.{Refused as NotChecked}
 use Rattle.wire.specs.declared.Frame.the-variants.{Command, Refused}

@@ -6,8 +6,8 @@ use lib.ListN.{length, drop}
 use Rattle.base.specs.Refusals.{numberOf}
 use Rattle.card.specs.declared.Outcome.{Outcome}
 use Rattle.card.specs.declared.Outcome.the-variants.{Done, Wrote, Refused}
-use Rattle.record.specs.declared.Making.{Making}
-use Rattle.record.specs.declared.Making.the-variants.{Done as Made, Refused as NotMade}
+use Rattle.card_record.specs.declared.Making.{Making}
+use Rattle.card_record.specs.declared.Making.the-variants.{Done as Made, Refused as NotMade}
 
 -- 0 for a call that was carried out, else the number of its refusal
 abbrev pub outcomeNumber : Outcome → ℕ

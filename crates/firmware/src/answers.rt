@@ -1,6 +1,6 @@
 // What a call at a card tells C beside the record.
 use card::Outcome;
-use record::Making;
+use card_record::Making;
 ghost use mathlib.Core.Path.{_≡_};
 ghost use Rattle.firmware.specs.Answers.{outcomeNumber, makingNumber, wroteOf};
 

@@ -7,19 +7,19 @@ use crate::answers::making_number;
 use crate::answers::outcome_number;
 use crate::answers::wrote;
 use base::Written;
+use card_record::Registers;
 use command::Sent;
 use crossing::card_of;
 use crossing::numbers_of;
-use record::Registers;
 ghost use mathlib.Core.Path.{_≡_};
 ghost use lib.ListN.{length};
 ghost use Rattle.card.specs.BlockIn.{blockJudged, keptOf, storedBy, clearedBy};
 ghost use Rattle.card.specs.BlockOut.{outJudged, sentOut};
-ghost use Rattle.card.specs.Frame.{frameOf, frameJudged, erasedBy, protectedBy};
+ghost use Rattle.card.specs.Frame.{frameStepped, frameJudged, erasedBy, protectedBy};
 ghost use Rattle.command.specs.Sending.{sentBytes, Sendable};
 ghost use Rattle.crossing.specs.Record.{cardOf, numbersOf};
-ghost use Rattle.record.specs.Making.{madeOf};
-ghost use Rattle.record.specs.Power.{poweredOn, worked};
+ghost use Rattle.card_record.specs.Making.{madeOf};
+ghost use Rattle.card_record.specs.Power.{poweredOn, worked};
 ghost use Rattle.firmware.specs.Answers.{outcomeNumber, makingNumber, wroteOf, fronted};
 
 // A card made: 7, 8, 9, 10, 11. A refused make leaves the one record that document 01 lets it
@@ -44,7 +44,7 @@ pub extern "C" fn mmc_parts_make(
     ensures password { λ _. ⌜ now (password .exit) ≡ madeOf (now (identifier .entry)) (now (specifics .entry)) ocr (now (secret .entry)) (length (now (memory .entry))) (now (map .entry)) .card .lock .password ⌝ }
     ensures stands { λ _. ⌜ cardOf (now (numbers .exit)) (now (cid .exit)) (now (csd .exit)) (now (password .exit)) ≡ madeOf (now (identifier .entry)) (now (specifics .entry)) ocr (now (secret .entry)) (length (now (memory .entry))) (now (map .entry)) .card ⌝ }
 {
-    let made = record::make(*identifier, *specifics, ocr, secret, memory, map);
+    let made = card_record::make(*identifier, *specifics, ocr, secret, memory, map);
     let card = made.card;
     let making = made.making;
     let registers = card.registers;
@@ -71,7 +71,7 @@ pub extern "C" fn mmc_parts_power_on(
     ensures stands { λ _. ⌜ cardOf (now (numbers .exit)) (now (cid .entry)) (now (csd .entry)) (now (password .entry)) ≡ poweredOn (cardOf (now (numbers .entry)) (now (cid .entry)) (now (csd .entry)) (now (password .entry))) ⌝ }
 {
     let card = card_of(*numbers, *cid, *csd, *password);
-    let next = record::power_on(card);
+    let next = card_record::power_on(card);
     *numbers = numbers_of(next);
 }
 
@@ -87,7 +87,7 @@ pub extern "C" fn mmc_parts_work_done(
     ensures stands { λ _. ⌜ cardOf (now (numbers .exit)) (now (cid .entry)) (now (csd .entry)) (now (password .entry)) ≡ worked (cardOf (now (numbers .entry)) (now (cid .entry)) (now (csd .entry)) (now (password .entry))) ⌝ }
 {
     let card = card_of(*numbers, *cid, *csd, *password);
-    let next = record::work_done(card);
+    let next = card_record::work_done(card);
     *numbers = numbers_of(next);
 }
 
@@ -119,13 +119,13 @@ pub extern "C" fn mmc_parts_frame(
     answer: &mut [u8; 17],
     sent: &mut usize,
 ) -> u8
-    ensures answer { λ r. ⌜ r ≡ outcomeNumber (frameOf (cardOf (now (numbers .entry)) (now (cid .entry)) (now (csd .entry)) (now (password .entry))) (now (frame .entry)) (length (now (memory .entry))) (now (map .entry)) .reply .outcome) ⌝ }
-    ensures numbers { λ _. ⌜ now (numbers .exit) ≡ numbersOf (frameOf (cardOf (now (numbers .entry)) (now (cid .entry)) (now (csd .entry)) (now (password .entry))) (now (frame .entry)) (length (now (memory .entry))) (now (map .entry)) .card) ⌝ }
-    ensures stands { λ _. ⌜ cardOf (now (numbers .exit)) (now (cid .entry)) (now (csd .entry)) (now (password .entry)) ≡ frameOf (cardOf (now (numbers .entry)) (now (cid .entry)) (now (csd .entry)) (now (password .entry))) (now (frame .entry)) (length (now (memory .entry))) (now (map .entry)) .card ⌝ }
+    ensures answer { λ r. ⌜ r ≡ outcomeNumber (frameStepped (cardOf (now (numbers .entry)) (now (cid .entry)) (now (csd .entry)) (now (password .entry))) (now (frame .entry)) (length (now (memory .entry))) (now (map .entry)) .reply .outcome) ⌝ }
+    ensures numbers { λ _. ⌜ now (numbers .exit) ≡ numbersOf (frameStepped (cardOf (now (numbers .entry)) (now (cid .entry)) (now (csd .entry)) (now (password .entry))) (now (frame .entry)) (length (now (memory .entry))) (now (map .entry)) .card) ⌝ }
+    ensures stands { λ _. ⌜ cardOf (now (numbers .exit)) (now (cid .entry)) (now (csd .entry)) (now (password .entry)) ≡ frameStepped (cardOf (now (numbers .entry)) (now (cid .entry)) (now (csd .entry)) (now (password .entry))) (now (frame .entry)) (length (now (memory .entry))) (now (map .entry)) .card ⌝ }
     ensures memory { λ _. ⌜ now (memory .exit) ≡ erasedBy (cardOf (now (numbers .entry)) (now (cid .entry)) (now (csd .entry)) (now (password .entry))) (now (memory .entry)) (now (map .entry)) (frameJudged (cardOf (now (numbers .entry)) (now (cid .entry)) (now (csd .entry)) (now (password .entry))) (now (frame .entry)) (length (now (memory .entry))) (now (map .entry)) .change) ⌝ }
     ensures map { λ _. ⌜ now (map .exit) ≡ protectedBy (now (map .entry)) (frameJudged (cardOf (now (numbers .entry)) (now (cid .entry)) (now (csd .entry)) (now (password .entry))) (now (frame .entry)) (length (now (memory .entry))) (now (map .entry)) .change) ⌝ }
-    ensures bytes { λ _. ⌜ now (answer .exit) ≡ fronted (sentBytes ((cardOf (now (numbers .entry)) (now (cid .entry)) (now (csd .entry)) (now (password .entry))) .registers) (frameOf (cardOf (now (numbers .entry)) (now (cid .entry)) (now (csd .entry)) (now (password .entry))) (now (frame .entry)) (length (now (memory .entry))) (now (map .entry)) .reply .sent)) (now (answer .entry)) ⌝ }
-    ensures sent { λ _. ⌜ now (sent .exit) ≡ length (sentBytes ((cardOf (now (numbers .entry)) (now (cid .entry)) (now (csd .entry)) (now (password .entry))) .registers) (frameOf (cardOf (now (numbers .entry)) (now (cid .entry)) (now (csd .entry)) (now (password .entry))) (now (frame .entry)) (length (now (memory .entry))) (now (map .entry)) .reply .sent)) ⌝ }
+    ensures bytes { λ _. ⌜ now (answer .exit) ≡ fronted (sentBytes ((cardOf (now (numbers .entry)) (now (cid .entry)) (now (csd .entry)) (now (password .entry))) .registers) (frameStepped (cardOf (now (numbers .entry)) (now (cid .entry)) (now (csd .entry)) (now (password .entry))) (now (frame .entry)) (length (now (memory .entry))) (now (map .entry)) .reply .sent)) (now (answer .entry)) ⌝ }
+    ensures sent { λ _. ⌜ now (sent .exit) ≡ length (sentBytes ((cardOf (now (numbers .entry)) (now (cid .entry)) (now (csd .entry)) (now (password .entry))) .registers) (frameStepped (cardOf (now (numbers .entry)) (now (cid .entry)) (now (csd .entry)) (now (password .entry))) (now (frame .entry)) (length (now (memory .entry))) (now (map .entry)) .reply .sent)) ⌝ }
 {
     let card = card_of(*numbers, *cid, *csd, *password);
     let registers = card.registers;

@@ -43,7 +43,7 @@ unfoldable pub poweredOf : Lock → Lock
 poweredOf lock = flagged lock (leb 1 (length (stored lock)))
 
 -- 11: "password over 16 bytes"; "a made card is as after power-on"
-unfoldable pub madeOf : List ℕ → Made
-madeOf bytes =
+unfoldable pub lockMade : List ℕ → Made
+lockMade bytes =
     unless (leb (length bytes) longest) (record { lock = noPassword; making = Refused (by 11) })
     (record { lock = poweredOf (holding bytes false); making = Done })

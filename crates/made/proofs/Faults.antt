@@ -11,7 +11,7 @@ use Rattle.base.proofs.Cases.{clash, passed}
 use Rattle.base.specs.Choice.{unless}
 use Rattle.command.specs.Arguments.{addressFault, lengthFault, readFault, writeFault, groupFault}
 use Rattle.command.specs.Obey.{passesLock}
-use Rattle.record.specs.Record.{crosses, longest}
+use Rattle.card_record.specs.Record.{crosses, longest}
 use Rattle.status.specs.ErrorBits.{errorBit}
 use Rattle.status.specs.declared.ErrorBit.{ErrorBit}
 use Rattle.status.specs.declared.Fault.{Fault}

@@ -15,7 +15,7 @@ use Rattle.card.specs.declared.BlockJudged.{BlockJudged}
 use Rattle.card.specs.declared.Call.the-variants.{BlockIn}
 use Rattle.card.specs.declared.Outcome.the-variants.{Refused}
 use Rattle.moves.proofs.Among.{each}
-use Rattle.record.specs.declared.Card.{Card}
+use Rattle.card_record.specs.declared.Card.{Card}
 use Rattle.states.specs.declared.Incoming.{Incoming}
 use Rattle.states.specs.declared.Incoming.the-variants.{One}
 use Rattle.states.specs.declared.State.the-variants.{Rcv}

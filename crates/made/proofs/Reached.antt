@@ -8,7 +8,7 @@ use mathlib.Core.List.{List, [], _∷_, _++_, map}
 use Prim.Native.Nat.{ℕ}
 use native.Mathlib.Omega.{arith}
 use lib.ListN.{replicate}
-use Rattle.card.specs.Frame.{frameJudged, frameOf}
+use Rattle.card.specs.Frame.{frameJudged, frameStepped}
 use Rattle.card.specs.declared.Call.the-variants.{Frame}
 use Rattle.command.specs.Answers.{responseOf, answered}
 use Rattle.command.specs.Arguments.{argumentFault}
@@ -16,18 +16,18 @@ use Rattle.command.specs.Command.{resetTold, concluded, takenOf, commandOf}
 use Rattle.command.specs.Obey.{taggingOf, judgedOf, awaitedBy, obeyed, changeOf}
 use Rattle.crc.specs.Bits.{bits}
 use Rattle.crc.specs.Crc.{divide, remainder}
-use Rattle.lock.specs.Passwords.{stored, holding, poweredOf, madeOf as lockMadeOf}
+use Rattle.lock.specs.Passwords.{stored, holding, poweredOf, lockMade as lockMadeOf}
 use Rattle.moves.specs.Classes.{classOf}
 use Rattle.moves.specs.Moves.{moveOf}
 use Rattle.moves.specs.Rows.{transferRow, rowOf}
-use Rattle.record.specs.Making.{refusedMake, passwordMade, madeOf}
-use Rattle.record.specs.Power.{freshLink}
-use Rattle.record.specs.declared.Making.the-variants.{Done}
+use Rattle.card_record.specs.Making.{refusedMake, passwordMade, madeOf}
+use Rattle.card_record.specs.Power.{freshLink}
+use Rattle.card_record.specs.declared.Making.the-variants.{Done}
 use Rattle.states.specs.declared.Incoming.the-variants.{One}
 use Rattle.states.specs.declared.State.the-variants.{Rcv}
 use Rattle.status.specs.Status.{wordOf}
 use Rattle.store.specs.Map.{entriesRight}
-use Rattle.wire.specs.Frames.{crc7Of, sealed, commandFrame, sentOf, framingOf}
+use Rattle.wire.specs.Frames.{crc7Of, sealed, commandFrame, fieldsOf, framingOf}
 use Rattle.wire.specs.Responses.{lastByte, registerRight}
 use Rattle.made.specs.Made.{Made}
 use Rattle.made.specs.Run.{Input, runOf, begun}
@@ -47,7 +47,7 @@ written =
     (commandFrame 1 0x00FF8000 ∷ commandFrame 2 0 ∷ commandFrame 3 0x00010000 ∷ commandFrame 7 0x00010000 ∷ commandFrame 24 512 ∷ [])
 
 pub reaches-one : runOf (begun register register 0x00FF8000 [] (replicate 8192 0xFF) (0 ∷ [])) written .card .link .state ≡ Rcv (One 512)
-unfolding runOf madeOf passwordMade lockMadeOf holding poweredOf stored registerRight lastByte crc7Of remainder divide bits entriesRight commandFrame sealed framingOf sentOf freshLink frameOf frameJudged commandOf rowOf transferRow moveOf classOf takenOf concluded answered responseOf resetTold wordOf judgedOf taggingOf argumentFault obeyed awaitedBy changeOf
+unfolding runOf madeOf passwordMade lockMadeOf holding poweredOf stored registerRight lastByte crc7Of remainder divide bits entriesRight commandFrame sealed framingOf fieldsOf freshLink frameStepped frameJudged commandOf rowOf transferRow moveOf classOf takenOf concluded answered responseOf resetTold wordOf judgedOf taggingOf argumentFault obeyed awaitedBy changeOf
 reaches-one = refl
 
 pub refused-unmade : Made refusedMake → ⊥

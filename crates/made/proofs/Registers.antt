@@ -7,7 +7,7 @@ use Prim.Native.Nat.{ℕ}
 use Rattle.card.proofs.Outcomes.{InOutcome, unreads, refuses, stores, grants, forces, OutOutcome, unsends, past, across, sends, FrameOutcome, unheard, damaged, commands, block-outcome, out-outcome, frame-outcome, told}
 use Rattle.card.specs.BlockIn.{blockRefused, blockGood}
 use Rattle.card.specs.BlockOut.{outRefused, outGood}
-use Rattle.card.specs.Frame.{frameJudged, spares, frameOf}
+use Rattle.card.specs.Frame.{frameJudged, spares, frameStepped}
 use Rattle.card.specs.Step.{stepOf}
 use Rattle.card.specs.declared.BlockJudged.{BlockJudged}
 use Rattle.card.specs.declared.Call.{Call}
@@ -15,8 +15,8 @@ use Rattle.card.specs.declared.Call.the-variants.{Frame, BlockIn, BlockOut, Wor
 use Rattle.card.specs.declared.FrameJudged.{FrameJudged}
 use Rattle.card.specs.declared.OutJudged.{OutJudged}
 use Rattle.card.specs.declared.Stepped.{Stepped}
-use Rattle.record.specs.Power.{poweredOn, worked}
-use Rattle.record.specs.declared.Card.{Card}
+use Rattle.card_record.specs.Power.{poweredOn, worked}
+use Rattle.card_record.specs.declared.Card.{Card}
 
 module _ (card : Card) where
   in-same : (block : List ℕ) (memory : ℕ) (map : List ℕ) {judged : BlockJudged} → InOutcome card block memory map judged
@@ -42,7 +42,7 @@ module _ (card : Card) where
   frame-same frame memory map (commands index argument is lent) = refl
 
   pub registers-kept : (call : Call) (input : List ℕ) (memory : ℕ) (map : List ℕ) (room : ℕ) → stepOf card call input memory map room .card .registers ≡ card .registers
-  unfolding frameOf worked poweredOn
+  unfolding frameStepped worked poweredOn
   registers-kept Frame input memory map room =
       let same = frame-same input memory map (frame-outcome card input memory map) in
       told (λ (s : Stepped). s .card .registers ≡ card .registers) (frameJudged card input memory map .stepped)

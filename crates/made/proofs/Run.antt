@@ -21,10 +21,10 @@ use Rattle.card.specs.declared.Storing.the-variants.{Nothing as Unstored, Secto
 use Rattle.command.specs.declared.Change.{Change}
 use Rattle.command.specs.declared.Change.the-variants.{Nothing, Protect, Erase}
 use Rattle.base.specs.Choice.{pick}
-use Rattle.record.specs.Making.{madeOf}
-use Rattle.record.specs.Record.{csdProtects}
-use Rattle.record.specs.declared.Card.{Card}
-use Rattle.record.specs.declared.Making.the-variants.{Done}
+use Rattle.card_record.specs.Making.{madeOf}
+use Rattle.card_record.specs.Record.{csdProtects}
+use Rattle.card_record.specs.declared.Card.{Card}
+use Rattle.card_record.specs.declared.Making.the-variants.{Done}
 use Rattle.store.proofs.Erased.{erased-length}
 use Rattle.store.proofs.Sectors.{written-length}
 use Rattle.made.proofs.Registers.{registers-kept}

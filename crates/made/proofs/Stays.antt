@@ -16,25 +16,25 @@ use Rattle.base.proofs.Cases.{guarded, clash}
 use Rattle.base.specs.Refusals.{by}
 use Rattle.base.specs.declared.Refusal.{Refusal}
 use Rattle.card.proofs.Outcomes.{FrameOutcome, unheard, damaged, commands, frame-outcome, told}
-use Rattle.card.specs.Frame.{frameJudged, spares, sparedTold, frameOf}
+use Rattle.card.specs.Frame.{frameJudged, spares, sparedTold, frameStepped}
 use Rattle.card.specs.Step.{stepOf}
 use Rattle.card.specs.declared.Call.{Call}
 use Rattle.card.specs.declared.Call.the-variants.{Frame, BlockIn, BlockOut, WorkDone, PowerOn}
 use Rattle.card.specs.declared.FrameJudged.{FrameJudged}
 use Rattle.card.specs.declared.Stepped.{Stepped}
 use Rattle.command.specs.Command.{damagedLink, commandOf}
-use Rattle.lock.specs.Passwords.{poweredOf, madeOf as lockMadeOf}
+use Rattle.lock.specs.Passwords.{poweredOf, lockMade as lockMadeOf}
 use Rattle.lock.specs.declared.Making.the-variants.{Done as LockDone, Refused as LockRefused}
 use Rattle.lock.specs.declared.Making.{Making as LockMaking}
 use Rattle.lock.specs.declared.Lock.{Lock}
 use Rattle.moves.specs.Rows.{window}
-use Rattle.record.specs.Making.{failedMake, lockedBy, passwordMade, madeOf}
-use Rattle.record.specs.Power.{poweredOn, workedState, worked}
-use Rattle.record.specs.Record.{sizeOf, withLink}
-use Rattle.record.specs.declared.Card.{Card}
-use Rattle.record.specs.declared.Made.{Made as MadeOf}
-use Rattle.record.specs.declared.Making.the-variants.{Done}
-use Rattle.record.specs.declared.Registers.{Registers}
+use Rattle.card_record.specs.Making.{failedMake, lockedBy, passwordMade, madeOf}
+use Rattle.card_record.specs.Power.{poweredOn, workedState, worked}
+use Rattle.card_record.specs.Record.{sizeOf, withLink}
+use Rattle.card_record.specs.declared.Card.{Card}
+use Rattle.card_record.specs.declared.Made.{Made as MadeOf}
+use Rattle.card_record.specs.declared.Making.the-variants.{Done}
+use Rattle.card_record.specs.declared.Registers.{Registers}
 use Rattle.states.specs.declared.State.{State}
 use Rattle.states.specs.declared.State.the-variants.{Idle, Ready, Ident, Stby, Tran, Data, Rcv, Prg, Dis, Ina}
 use Rattle.status.specs.ErrorBits.{errorBit}
@@ -85,8 +85,8 @@ module _ (card : Card) (made : Made card) where
             (set-pending (next .link .errors) (errorBit 15) refl (m .link .errors));
       }
 
-  frame-made : (frame : List ℕ) (memory : ℕ) (map : List ℕ) → Made (frameOf card frame memory map .card)
-  unfolding frameOf
+  frame-made : (frame : List ℕ) (memory : ℕ) (map : List ℕ) → Made (frameStepped card frame memory map .card)
+  unfolding frameStepped
   frame-made frame memory map =
       let stepped : Stepped = frameJudged card frame memory map .stepped in
       let m : Made (stepped .card) = judged-made frame memory map (frame-outcome card frame memory map) in

@@ -13,20 +13,20 @@ use borrow.Author.Tests.{le-leb}
 use lib.Dec.{eqb}
 use Rattle.base.proofs.Cases.{guarded, never}
 use Rattle.command.specs.Answers.{responseOf, answered}
-use Rattle.command.specs.Command.{askedOf, resetTold, concluded, takenOf, movedBy}
+use Rattle.command.specs.Command.{receivedOf, resetTold, concluded, takenOf, movedBy}
 use Rattle.command.specs.Obey.{dropsTags, passesLock, taggingOf, judgedOf, stateAt, obeyed}
 use Rattle.command.specs.declared.Commanded.{Commanded}
 use Rattle.command.specs.declared.Met.{Met}
 use Rattle.command.specs.declared.Response.the-variants.{R1}
 use Rattle.moves.proofs.Laws.{listed}
 use Rattle.moves.specs.Moves.{legal, moveOf}
-use Rattle.moves.specs.declared.Asked.{Asked}
+use Rattle.moves.specs.declared.Received.{Received}
 use Rattle.moves.specs.declared.Move.{Move}
 use Rattle.moves.specs.declared.Move.the-variants.{Ignored, Silent, Illegal, To}
 use Rattle.moves.specs.declared.Row.{Row}
 use Rattle.moves.specs.declared.Row.the-variants.{SetOrTag}
-use Rattle.record.specs.Record.{sizeOf, lengthRead, longest}
-use Rattle.record.specs.declared.Link.{Link}
+use Rattle.card_record.specs.Record.{sizeOf, lengthRead, longest}
+use Rattle.card_record.specs.declared.Link.{Link}
 use Rattle.states.specs.States.{columnOf}
 use Rattle.states.specs.declared.Column.{Column}
 use Rattle.states.specs.declared.Column.the-variants.{Idle, Ready, Ident, Stby, Tran, Data, Rcv, Prg, Dis, Ina}
@@ -61,8 +61,8 @@ abbrev pub Kept : Meeting → Commanded → Type 0
 Kept c given = Right c (given .link)
 
 -- the command of an index, its tags and its error at the meeting, and the link after it where it has none
-abbrev pub asked : Meeting → ℕ → Asked
-asked c index = askedOf (c .link) (c .met) index (c .argument)
+abbrev pub asked : Meeting → ℕ → Received
+asked c index = receivedOf (c .link) (c .met) index (c .argument)
 
 abbrev pub tagging : Meeting → ℕ → Tagging
 tagging c index = taggingOf (c .link) (sizeOf (c .met .groups)) index (c .argument)

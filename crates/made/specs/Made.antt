@@ -10,10 +10,10 @@ use lib.ListN.{length, take, replicate}
 use Rattle.command.specs.declared.Met.{Met}
 use Rattle.lock.specs.declared.Lock.{Lock}
 use Rattle.moves.specs.Rows.{window}
-use Rattle.record.specs.Record.{sizeOf, crosses, longest}
-use Rattle.record.specs.declared.Card.{Card}
-use Rattle.record.specs.declared.Link.{Link}
-use Rattle.record.specs.declared.Registers.{Registers}
+use Rattle.card_record.specs.Record.{sizeOf, crosses, longest}
+use Rattle.card_record.specs.declared.Card.{Card}
+use Rattle.card_record.specs.declared.Link.{Link}
+use Rattle.card_record.specs.declared.Registers.{Registers}
 use Rattle.states.specs.declared.Incoming.{Incoming}
 use Rattle.states.specs.declared.Incoming.the-variants.{One as OneIn, Many as ManyIn, LockRequest}
 use Rattle.states.specs.declared.Outgoing.{Outgoing}

@@ -5,8 +5,8 @@ use Prim.Native.Nat.{ℕ}
 use lib.ListN.{length}
 use Rattle.card.specs.Step.{stepOf, memoryOf, mapOf}
 use Rattle.card.specs.declared.Call.{Call}
-use Rattle.record.specs.Making.{madeOf}
-use Rattle.record.specs.declared.Card.{Card}
+use Rattle.card_record.specs.Making.{madeOf}
+use Rattle.card_record.specs.declared.Card.{Card}
 
 -- a card with the memory and the map that it is lent
 pub record World : Type 0 where

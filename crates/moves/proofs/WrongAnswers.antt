@@ -24,13 +24,13 @@ use Rattle.states.specs.declared.Column.the-variants.{Idle, Ready, Stby, Tran, 
 use Rattle.moves.specs.Classes.{classOf}
 use Rattle.moves.specs.Moves.{moveOf}
 use Rattle.moves.specs.Rows.{rowOf}
-use Rattle.moves.specs.declared.Asked.{Asked}
+use Rattle.moves.specs.declared.Received.{Received}
 use Rattle.moves.specs.declared.Class.the-variants.{Basic, Erase}
 use Rattle.moves.specs.declared.Move.the-variants.{Illegal, To}
 use Rattle.moves.specs.declared.Row.the-variants.{GoIdleState, OpCondShared, OpCondApart, SetRelativeAddr, SelectCard, DeselectCard, StopTransmission, SendStatus, Read}
 
 -- a command at a card of address 1, whose OCR has bit 31 and bits 23..15 set
-abbrev sent : ℕ → ℕ → Asked
+abbrev sent : ℕ → ℕ → Received
 sent index argument = record { index = index; argument = argument; address = 1; ocr = 0x80FF8000; wins = true }
 
 untag-has-a-class : classOf 34 ≡ Erase → ⊥

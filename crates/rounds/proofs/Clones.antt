@@ -23,14 +23,14 @@ use Rattle.base.proofs.Cases.{cases}
 use Rattle.bus.specs.Bus.{countOf, cardsOf, isReady, busFrame}
 use Rattle.bus.specs.declared.Bus.{Bus}
 use Rattle.crc.specs.Bits.{bits, spelt}
-use Rattle.record.specs.Making.{refusedMake}
-use Rattle.record.specs.declared.Card.{Card}
+use Rattle.card_record.specs.Making.{refusedMake}
+use Rattle.card_record.specs.declared.Card.{Card}
 use Rattle.rounds.proofs.Demand3.{demand3, in-place, place-of}
 use Rattle.rounds.proofs.Distinct.{getD-member, rank-get, get-rank, rank-lt}
 use Rattle.rounds.proofs.Reach.{ready-member, ready-from}
 use Rattle.rounds.proofs.Repeats.{repeats-later, repeats-first, fewer-repeats}
 use Rattle.rounds.specs.Clones.{isAnswer, countIf, answeredRounds, readyCards, Clones, AnyClones, Differ, ClonesSeen}
-use Rattle.rounds.specs.Demand3.{Step, roundsOf, before, answer, cardAt, identifier, cidOf, readyOf, identifiers, reached, WellFormed, NoneIdentified, Usable, Rounds, Demand3}
+use Rattle.rounds.specs.Demand3.{Step, roundsOf, before, answer, cardAt, identifier, cidOf, readyIdentifiers, identifiers, reached, WellFormed, NoneIdentified, Usable, Rounds, Demand3}
 use Rattle.rounds.specs.Distinct.{rank, Repeats}
 
 -- ---- clones among the cards, by their identifiers
@@ -46,19 +46,19 @@ Twins cards =
 twins-later : (c : Card) (cards : List Card) → Twins cards → Twins (c ∷ cards)
 twins-later c cards t = (suc (t .0), (suc (t .1 .0), (omega (arith, t .1 .1 .0), (omega (arith, t .1 .1 .1 .0), t .1 .1 .1 .1))))
 
-twins : (cards : List Card) → Repeats (readyOf cards) → Twins cards
-unfolding readyOf
+twins : (cards : List Card) → Repeats (readyIdentifiers cards) → Twins cards
+unfolding readyIdentifiers
 twins [] r = absurd (omega (arith, r .1 .1 .1 .0))
 twins (c ∷ cards) r =
     cases (isReady c)
     (λ p. first (twins cards) p (r .0) (r .1 .0) (r .1 .1 .0) (rw p at (r .1 .1 .1 .0)) (rw p at (r .1 .1 .1 .1)))
     (λ p. twins-later c cards (twins cards (rw p at r)))
   where
-    first : (Repeats (readyOf cards) → Twins cards) → isReady c ≡ true → (i j : ℕ) → i < j → j < suc (length (readyOf cards))
-        → getD (identifier c ∷ readyOf cards) i 0 ≡ getD (identifier c ∷ readyOf cards) j 0 → Twins (c ∷ cards)
+    first : (Repeats (readyIdentifiers cards) → Twins cards) → isReady c ≡ true → (i j : ℕ) → i < j → j < suc (length (readyIdentifiers cards))
+        → getD (identifier c ∷ readyIdentifiers cards) i 0 ≡ getD (identifier c ∷ readyIdentifiers cards) j 0 → Twins (c ∷ cards)
     first rest p i zero h b e = absurd (omega arith)
     first rest p zero (suc j) h b e =
-        let w = ready-from cards (getD (readyOf cards) j 0) (getD-member (readyOf cards) j (omega arith)) in
+        let w = ready-from cards (getD (readyIdentifiers cards) j 0) (getD-member (readyIdentifiers cards) j (omega arith)) in
         let k = place-of cards (w .0) refusedMake (w .1) in (
           0,
           (
@@ -75,18 +75,18 @@ twins (c ∷ cards) r =
     first rest p (suc i) (suc j) h b e = twins-later c cards (rest (i, (j, (omega arith, (omega arith, e)))))
 
 repeated : (cards : List Card) (i j : ℕ) → i < j → j < length cards → isReady (getD cards i refusedMake) ≡ true
-    → isReady (getD cards j refusedMake) ≡ true → identifier (getD cards i refusedMake) ≡ identifier (getD cards j refusedMake) → Repeats (readyOf cards)
-unfolding readyOf
+    → isReady (getD cards j refusedMake) ≡ true → identifier (getD cards i refusedMake) ≡ identifier (getD cards j refusedMake) → Repeats (readyIdentifiers cards)
+unfolding readyIdentifiers
 repeated [] i j h b p q e = absurd (omega arith)
 repeated (c ∷ cards) i zero h b p q e = absurd (omega arith)
 repeated (c ∷ cards) zero (suc j) h b p q e =
     rw p
-    (repeats-first (identifier c) (readyOf cards)
-    (subst (λ (z : ℕ). List·Memᴰ z (readyOf cards)) (sym e)
+    (repeats-first (identifier c) (readyIdentifiers cards)
+    (subst (λ (z : ℕ). List·Memᴰ z (readyIdentifiers cards)) (sym e)
     (ready-member cards (getD cards j refusedMake) (in-place cards j refusedMake (omega arith)) q)))
 repeated (c ∷ cards) (suc i) (suc j) h b p q e =
     let r = repeated cards i j (omega arith) (omega arith) p q e in
-    cases (isReady c) (λ t. rw t (repeats-later (identifier c) (readyOf cards) r)) (λ t. rw t r)
+    cases (isReady c) (λ t. rw t (repeats-later (identifier c) (readyIdentifiers cards) r)) (λ t. rw t r)
 
 module _ (step : Step) (bus : Bus) (addresses : List ℕ) (rounds : Rounds step bus addresses) where
   abbrev ids : List ℕ
@@ -132,7 +132,7 @@ module _ (step : Step) (bus : Bus) (addresses : List ℕ) (rounds : Rounds step 
       let count : length (cardsOf bus) ≡ countOf bus = length-take-le (countOf bus) (bus .cards) (omega arith) in
       let all = answered-distinct enough in (
         λ (missing : answeredRounds step bus addresses < readyCards bus).
-            (let t = twins (cardsOf bus) (fewer-repeats (readyOf (cardsOf bus)) .0 (omega arith)) in
+            (let t = twins (cardsOf bus) (fewer-repeats (readyIdentifiers (cardsOf bus)) .0 (omega arith)) in
             let i : ℕ = t .0 in
             let j : ℕ = t .1 .0 in
             let before-j : i < j = t .1 .1 .0 in
@@ -143,7 +143,7 @@ module _ (step : Step) (bus : Bus) (addresses : List ℕ) (rounds : Rounds step 
             (let i : ℕ = c .0 in
             let j : ℕ = c .1 .0 in
             let two = c .1 .1 .1 .1 in
-            let h = fewer-repeats (readyOf (cardsOf bus)) .1
+            let h = fewer-repeats (readyIdentifiers (cardsOf bus)) .1
             (repeated (cardsOf bus) i j (c .1 .1 .0) (omega (arith, c .1 .1 .1 .0)) (two .0) (two .1 .0) (same-identifier i j (two .1 .1)))
             in
             omega arith),
@@ -234,8 +234,8 @@ pub clones-on-ours : (bus : Bus) (addresses : List ℕ) → WellFormed bus → 1
 clones-on-ours = clones-seen busFrame demand3
 
 -- where every card is in Ready, the identifiers are those of all cards: a count without a bus is over their list
-pub all-ready : (cards : List Card) → ((card : Card) → List·Memᴰ card cards → isReady card ≡ true) → readyOf cards ≡ map identifier cards
-unfolding readyOf
+pub all-ready : (cards : List Card) → ((card : Card) → List·Memᴰ card cards → isReady card ≡ true) → readyIdentifiers cards ≡ map identifier cards
+unfolding readyIdentifiers
 all-ready [] ready = refl
 all-ready (c ∷ cards) ready =
     rw (ready c (List·Memᴰ·head refl)) (ap (λ (l : List ℕ). identifier c ∷ l) (all-ready cards (λ card m. ready card (List·Memᴰ·tail m))))

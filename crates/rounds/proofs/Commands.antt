@@ -19,8 +19,8 @@ use Rattle.command.specs.declared.Response.the-variants.{R2}
 use Rattle.moves.specs.Classes.{classOf}
 use Rattle.moves.specs.Moves.{moveOf}
 use Rattle.moves.specs.Rows.{rowOf}
-use Rattle.record.specs.declared.Link.{Link}
-use Rattle.states.specs.States.{columnOf, numberOf}
+use Rattle.card_record.specs.declared.Link.{Link}
+use Rattle.states.specs.States.{columnOf, columnNumber}
 use Rattle.states.specs.declared.State.{State}
 use Rattle.states.specs.declared.State.the-variants.{Idle, Ready, Ident, Stby, Tran, Data, Rcv, Prg, Dis, Ina}
 use Rattle.status.specs.Status.{noErrors}
@@ -54,7 +54,7 @@ module _ (address length : ℕ) (errors : Errors) (tags : Tags) (ocr groups argu
 
   -- in any other state it is silent
   sent : (locked : Bool) (state : State) → commandOf (linkOf state address length errors tags) (metOf ocr groups locked true) 2 argument .link
-      ≡ pick (eqb (numberOf (columnOf state)) 1) (identified (linkOf state address length errors tags)) (linkOf state address length errors tags)
+      ≡ pick (eqb (columnNumber (columnOf state)) 1) (identified (linkOf state address length errors tags)) (linkOf state address length errors tags)
   unfolding commandOf rowOf moveOf
   sent locked Idle = refl
   sent locked Ready = won locked
@@ -83,7 +83,7 @@ module _ (address length : ℕ) (errors : Errors) (tags : Tags) (ocr groups argu
 
 pub cid-sent : (link : Link) (ocr groups : ℕ) (locked wins : Bool) (argument : ℕ)
     → commandOf link (metOf ocr groups locked wins) 2 argument .link
-    ≡ pick (wins && eqb (numberOf (columnOf (link .state))) 1) (identified link) link
+    ≡ pick (wins && eqb (columnNumber (columnOf (link .state))) 1) (identified link) link
 cid-sent link ocr groups locked true argument =
     sent (link .address) (link .length) (link .errors) (link .tags) ocr groups argument locked (link .state)
 cid-sent link ocr groups locked false argument =
@@ -105,7 +105,7 @@ module _ (address length : ℕ) (errors : Errors) (tags : Tags) (ocr groups : �
   accepted false = rw (whole, le-leb 1 given some, whole)
 
   taken : (locked : Bool) (state : State) → commandOf (linkOf state address length errors tags) (metOf ocr groups locked wins) 3 (given * 65536) .link
-      ≡ pick (eqb (numberOf (columnOf state)) 2) (stood given (linkOf state address length errors tags)) (linkOf state address length errors tags)
+      ≡ pick (eqb (columnNumber (columnOf state)) 2) (stood given (linkOf state address length errors tags)) (linkOf state address length errors tags)
   unfolding commandOf rowOf moveOf
   taken locked Idle = refl
   taken locked Ready = refl
@@ -120,7 +120,7 @@ module _ (address length : ℕ) (errors : Errors) (tags : Tags) (ocr groups : �
 
 pub address-taken : (link : Link) (ocr groups : ℕ) (locked wins : Bool) (address : ℕ) → 1 ≤ address
     → commandOf link (metOf ocr groups locked wins) 3 (address * 65536) .link
-    ≡ pick (eqb (numberOf (columnOf (link .state))) 2) (stood address link) link
+    ≡ pick (eqb (columnNumber (columnOf (link .state))) 2) (stood address link) link
 address-taken link ocr groups locked wins address some =
     taken (link .address) (link .length) (link .errors) (link .tags) ocr groups wins address some locked (link .state)
 

@@ -16,14 +16,14 @@ use Rattle.bus.specs.declared.Framed.{Framed as Answered}
 use Rattle.bus.specs.declared.Shown.the-variants.{Line, Silent}
 use Rattle.crc.proofs.Bits.{length-octets}
 use Rattle.crc.specs.Bits.{bitsOf}
-use Rattle.record.specs.Making.{refusedMake}
-use Rattle.record.specs.declared.Card.{Card}
+use Rattle.card_record.specs.Making.{refusedMake}
+use Rattle.card_record.specs.declared.Card.{Card}
 use Rattle.rounds.proofs.Distinct.{distinct-ascending, distinct-from, rank-get, get-rank, rank-lt}
 use Rattle.rounds.proofs.ManyRounds.{rounds-are, good-after, ids-after}
 use Rattle.rounds.proofs.OnTheBus.{Filled, cards-length, cid-frame, after, usable-take, before-is, before-cards, before-filled, before-rest}
 use Rattle.rounds.proofs.OneRound.{Good, good, good-card, cid-back, among, shows-first, shows-none}
 use Rattle.rounds.proofs.Reach.{map-on, final, reach-now, reach-not, reach-yet, ready-from}
-use Rattle.rounds.specs.Demand3.{before, answer, cardAt, identifier, cidOf, readyOf, identifiers, nth, reached, Holds, CidBytes, WellFormed, isIdent, NoneIdentified, Usable, Rounds, Demand3}
+use Rattle.rounds.specs.Demand3.{before, answer, cardAt, identifier, cidOf, readyIdentifiers, identifiers, nth, reached, Holds, CidBytes, WellFormed, isIdent, NoneIdentified, Usable, Rounds, Demand3}
 use Rattle.rounds.specs.Distinct.{distinct, rank, Ascending}
 
 -- ---- places of a list
@@ -84,7 +84,7 @@ module _ (bus : Bus) (addresses : List ℕ) (formed : WellFormed bus) (some : 1 
   held place h = let e = count in in-place cards place refusedMake (omega arith)
 
   asc : Ascending ids
-  asc = distinct-ascending (readyOf cards)
+  asc = distinct-ascending (readyIdentifiers cards)
 
   is-among : (place : ℕ) → place < countOf bus → isReady (cardAt bus place) ≡ true → List·Memᴰ (identifier (cardAt bus place)) ids
   is-among place h p = among cards good-cards (cardAt bus place) (held place h) p
@@ -93,7 +93,7 @@ module _ (bus : Bus) (addresses : List ℕ) (formed : WellFormed bus) (some : 1 
   abbrev left : ℕ → List Card
   left k = after (take k addresses) cards
 
-  ids-left : (k : ℕ) → k < length addresses → distinct (readyOf (left k)) ≡ drop k ids
+  ids-left : (k : ℕ) → k < length addresses → distinct (readyIdentifiers (left k)) ≡ drop k ids
   ids-left k h =
       ids-after (take k addresses) cards good-cards (usable-take k addresses u)
       ∙ ap (λ (n : ℕ). drop n ids) (length-take-le k addresses (omega arith))
@@ -169,7 +169,7 @@ module _ (bus : Bus) (addresses : List ℕ) (formed : WellFormed bus) (some : 1 
   each-held number =
       let e = count in (
         λ (m : List·Memᴰ number ids).
-            (let w = ready-from cards number (distinct-from (readyOf cards) number m) in
+            (let w = ready-from cards number (distinct-from (readyIdentifiers cards) number m) in
             let i = place-of cards (w .0) refusedMake (w .1) in
             (i .0, (omega (arith, i .1 .0), (ap isReady (i .1 .1) ∙ w .2, ap identifier (i .1 .1) ∙ w .3)))),
         λ w. subst (λ (z : ℕ). List·Memᴰ z ids) (w .1 .1 .1) (is-among (w .0) (w .1 .0) (w .1 .1 .0)),

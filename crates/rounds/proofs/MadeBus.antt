@@ -24,8 +24,8 @@ use Rattle.made.proofs.Stays.{command-made, damage-made}
 use Rattle.base.proofs.Cases.{never, guarded}
 use Rattle.made.specs.Made.{Made}
 use Rattle.moves.specs.Indices.{among}
-use Rattle.record.specs.Making.{refusedMake}
-use Rattle.record.specs.declared.Card.{Card}
+use Rattle.card_record.specs.Making.{refusedMake}
+use Rattle.card_record.specs.declared.Card.{Card}
 use Rattle.wire.specs.Frames.{framingOf}
 use Rattle.wire.specs.declared.Framing.{Framing}
 use Rattle.wire.specs.declared.Framing.the-variants.{Framed, Unframed}

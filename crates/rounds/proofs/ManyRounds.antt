@@ -11,11 +11,11 @@ use lib.ListN.{length, drop}
 use lib.Seq.{drop-nil}
 use Rattle.base.proofs.Cases.{cases}
 use Rattle.bus.specs.Bus.{isReady}
-use Rattle.record.specs.declared.Card.{Card}
+use Rattle.card_record.specs.declared.Card.{Card}
 use Rattle.rounds.proofs.OnTheBus.{after}
 use Rattle.rounds.proofs.OneRound.{Good, keeps, round, round-is}
 use Rattle.rounds.proofs.Reach.{map-on, map-id, one, roundBy, reach, final, ids-next, final-one, none-ready, final-none}
-use Rattle.rounds.specs.Demand3.{readyOf, Usable}
+use Rattle.rounds.specs.Demand3.{readyIdentifiers, Usable}
 use Rattle.rounds.specs.Distinct.{distinct}
 
 -- no round, no change
@@ -28,21 +28,21 @@ untouched cards ids =
     still card p = rw p
 
 pub rounds-are : (addresses : List ℕ) (cards : List Card) → Good cards → Usable addresses
-    → after addresses cards ≡ map (final addresses (distinct (readyOf cards))) cards
+    → after addresses cards ≡ map (final addresses (distinct (readyIdentifiers cards))) cards
 unfolding after
-rounds-are [] cards g u = sym (untouched cards (distinct (readyOf cards)))
+rounds-are [] cards g u = sym (untouched cards (distinct (readyIdentifiers cards)))
 rounds-are (a ∷ addresses) cards g u =
-    ap (after addresses) (round-is cards g a (u .0 .0)) ∙ go (distinct (readyOf cards)) refl (λ next h. rounds-are addresses next h (u .1))
+    ap (after addresses) (round-is cards g a (u .0 .0)) ∙ go (distinct (readyIdentifiers cards)) refl (λ next h. rounds-are addresses next h (u .1))
   where
-    go : (ids : List ℕ) → distinct (readyOf cards) ≡ ids
-        → ((next : List Card) → Good next → after addresses next ≡ map (final addresses (distinct (readyOf next))) next)
+    go : (ids : List ℕ) → distinct (readyIdentifiers cards) ≡ ids
+        → ((next : List Card) → Good next → after addresses next ≡ map (final addresses (distinct (readyIdentifiers next))) next)
         → after addresses (roundBy ids a cards) ≡ map (final (a ∷ addresses) ids) cards
     go [] e rest =
         rest cards g
         ∙ map-on _ _ cards
         (λ card k.
         cases (isReady card) (λ p. absurd (none-ready cards e card k p))
-        (λ p. final-none addresses (distinct (readyOf cards)) card p ∙ sym (final-none (a ∷ addresses) [] card p)))
+        (λ p. final-none addresses (distinct (readyIdentifiers cards)) card p ∙ sym (final-none (a ∷ addresses) [] card p)))
     go (m ∷ ms) e rest =
         rest (map (one m a) cards) (keeps m a cards g)
         ∙ ap (λ (ids : List ℕ). map (final addresses ids) (map (one m a) cards)) (ids-next m a ms cards e)
@@ -54,14 +54,14 @@ good-at a cards [] g = g
 good-at a cards (m ∷ ms) g = keeps m a cards g
 
 good-round : (a : ℕ) (cards : List Card) → Good cards → 1 ≤ a → Good (round a cards)
-good-round a cards g some = subst Good (sym (round-is cards g a some)) (good-at a cards (distinct (readyOf cards)) g)
+good-round a cards g some = subst Good (sym (round-is cards g a some)) (good-at a cards (distinct (readyIdentifiers cards)) g)
 
 pub good-after : (addresses : List ℕ) (cards : List Card) → Good cards → Usable addresses → Good (after addresses cards)
 unfolding after
 good-after [] cards g u = g
 good-after (a ∷ addresses) cards g u = good-after addresses (round a cards) (good-round a cards g (u .0 .0)) (u .1)
 
-ids-at : (a : ℕ) (cards : List Card) (ids : List ℕ) → distinct (readyOf cards) ≡ ids → distinct (readyOf (roundBy ids a cards)) ≡ drop 1 ids
+ids-at : (a : ℕ) (cards : List Card) (ids : List ℕ) → distinct (readyIdentifiers cards) ≡ ids → distinct (readyIdentifiers (roundBy ids a cards)) ≡ drop 1 ids
 ids-at a cards [] e = e
 ids-at a cards (m ∷ ms) e = ids-next m a ms cards e
 
@@ -70,11 +70,11 @@ drop-one n [] = drop-nil n
 drop-one n (x ∷ l) = refl
 
 pub ids-after : (addresses : List ℕ) (cards : List Card) → Good cards → Usable addresses
-    → distinct (readyOf (after addresses cards)) ≡ drop (length addresses) (distinct (readyOf cards))
+    → distinct (readyIdentifiers (after addresses cards)) ≡ drop (length addresses) (distinct (readyIdentifiers cards))
 unfolding after
 ids-after [] cards g u = refl
 ids-after (a ∷ addresses) cards g u =
     ids-after addresses (round a cards) (good-round a cards g (u .0 .0)) (u .1)
     ∙ ap (drop (length addresses))
-    (ap (λ (l : List Card). distinct (readyOf l)) (round-is cards g a (u .0 .0)) ∙ ids-at a cards (distinct (readyOf cards)) refl)
-    ∙ drop-one (length addresses) (distinct (readyOf cards))
+    (ap (λ (l : List Card). distinct (readyIdentifiers l)) (round-is cards g a (u .0 .0)) ∙ ids-at a cards (distinct (readyIdentifiers cards)) refl)
+    ∙ drop-one (length addresses) (distinct (readyIdentifiers cards))

@@ -19,7 +19,7 @@ use Rattle.base.specs.Refusals.{by}
 use Rattle.bus.specs.Bus.{countOf, cardsOf, withCards, cidLine, lineOf, shownOf, padded, refusedOn, commandFor, framedOn, busFrame}
 use Rattle.bus.specs.declared.Bus.{Bus}
 use Rattle.bus.specs.declared.Framed.{Framed as Answered}
-use Rattle.record.specs.declared.Card.{Card}
+use Rattle.card_record.specs.declared.Card.{Card}
 use Rattle.wire.specs.Frames.{commandFrame}
 use Rattle.wire.specs.declared.Framing.{Framing}
 use Rattle.rounds.proofs.Commands.{framed}

@@ -18,15 +18,15 @@ use Rattle.base.specs.Choice.{pick}
 use Rattle.bus.specs.Bus.{isReady, cidSender, cidBits, winsLine, commandAt, cardAfter, anyReady, cidLine}
 use Rattle.crc.proofs.Bits.{length-bits, bits-below, bitsOf-spelt, octets-bits}
 use Rattle.crc.specs.Bits.{bitsOf, bits, spelt, octets, Below}
-use Rattle.line.proofs.Arbitration.{and-left, and-right, Bitwise, bitwise, winners, line-is-smallest, contested-length, contested-below}
-use Rattle.line.specs.Line.{Sender, contested}
-use Rattle.record.specs.Record.{withLink}
-use Rattle.record.specs.declared.Card.{Card}
-use Rattle.record.specs.declared.Link.{Link}
+use Rattle.shared_line.proofs.Arbitration.{and-left, and-right, Bitwise, bitwise, winners, line-is-smallest, contested-length, contested-below}
+use Rattle.shared_line.specs.Line.{Sender, contested}
+use Rattle.card_record.specs.Record.{withLink}
+use Rattle.card_record.specs.declared.Card.{Card}
+use Rattle.card_record.specs.declared.Link.{Link}
 use Rattle.rounds.proofs.Commands.{identified, stood, cid-sent, address-taken}
 use Rattle.rounds.proofs.Distinct.{distinct-ascending, distinct-has, distinct-from, first-under}
 use Rattle.rounds.proofs.Reach.{map-on, map-id, one, roundBy, ready-member, ready-from}
-use Rattle.rounds.specs.Demand3.{identifier, cidOf, readyOf, reached, CidBytes, isIdent}
+use Rattle.rounds.specs.Demand3.{identifier, cidOf, readyIdentifiers, reached, CidBytes, isIdent}
 use Rattle.rounds.specs.Distinct.{distinct, Ascending}
 
 -- ---- what is asked of the cards
@@ -114,8 +114,8 @@ no-ready (x ∷ cards) h =
 
 module _ (cards : List Card) (g : Good cards) where
   -- the identifier of a card in Ready is among the distinct ones
-  pub among : (card : Card) → List·Memᴰ card cards → isReady card ≡ true → List·Memᴰ (identifier card) (distinct (readyOf cards))
-  among card k p = distinct-has (readyOf cards) (identifier card) (ready-member cards card k p)
+  pub among : (card : Card) → List·Memᴰ card cards → isReady card ≡ true → List·Memᴰ (identifier card) (distinct (readyIdentifiers cards))
+  among card k p = distinct-has (readyIdentifiers cards) (identifier card) (ready-member cards card k p)
 
   senders : Bitwise cidBits (map cidSender cards)
   senders =
@@ -126,15 +126,15 @@ module _ (cards : List Card) (g : Good cards) where
       subst (λ (z : Sender). (length (z .bits) ≡ cidBits) × Below 2 (z .bits)) (w .2) (bits-128 cid (good-card g (w .0) (w .1) .1), bits-below cid))
 
   -- what the line shows is the smallest identifier
-  line-first : (m : ℕ) (ms : List ℕ) → distinct (readyOf cards) ≡ m ∷ ms → spelt (contested cidBits (map cidSender cards)) ≡ m
+  line-first : (m : ℕ) (ms : List ℕ) → distinct (readyIdentifiers cards) ≡ m ∷ ms → spelt (contested cidBits (map cidSender cards)) ≡ m
   line-first m ms e =
-      let c = ready-from cards m (distinct-from (readyOf cards) m (subst (List·Memᴰ m) (sym e) (List·Memᴰ·head refl))) in
+      let c = ready-from cards m (distinct-from (readyIdentifiers cards) m (subst (List·Memᴰ m) (sym e) (List·Memᴰ·head refl))) in
       let b = line-is-smallest cidBits (map cidSender cards) senders (cidSender (c .0)) (Memᴰ·map cidSender (c .1)) (c .2) in
       let z = Memᴰ·of-map cidSender cards (b .0 .1) in
       let most : spelt (contested cidBits (map cidSender cards)) ≤ identifier (c .0) = b .1 (cidSender (c .0)) (Memᴰ·map cidSender (c .1)) (c .2) in
       let is : identifier (z .0) ≡ spelt (contested cidBits (map cidSender cards)) = ap spelt (ap (λ (s : Sender). s .bits) (z .2) ∙ b .0 .3) in
       let least : m ≤ identifier (z .0) =
-      first-under m ms (subst Ascending e (distinct-ascending (readyOf cards))) (identifier (z .0))
+      first-under m ms (subst Ascending e (distinct-ascending (readyIdentifiers cards))) (identifier (z .0))
       (subst (List·Memᴰ (identifier (z .0))) e (among (z .0) (z .1) (ap (λ (s : Sender). s .on) (z .2) ∙ b .0 .2)))
       in
       let held : identifier (c .0) ≡ m = c .3 in
@@ -161,7 +161,7 @@ module _ (cards : List Card) (g : Good cards) where
   winner a some others card w p =
       ap (cardAfter others 3 (a * 65536)) (cid-card cards card ∙ rw (w, p)) ∙ address-card others a some (withLink card (identified (card .link)))
 
-  round-at : (a : ℕ) → 1 ≤ a → (ids : List ℕ) → distinct (readyOf cards) ≡ ids → round a cards ≡ roundBy ids a cards
+  round-at : (a : ℕ) → 1 ≤ a → (ids : List ℕ) → distinct (readyIdentifiers cards) ≡ ids → round a cards ≡ roundBy ids a cards
   unfolding cidRound addressRound one
   round-at a some [] e =
       map-map (cardAfter (cidRound cards) 3 (a * 65536)) (cardAfter cards 2 0) cards
@@ -189,20 +189,20 @@ module _ (cards : List Card) (g : Good cards) where
       (λ t. rw t))))
 
   -- A round reaches those that hold the smallest identifier.
-  pub round-is : (a : ℕ) → 1 ≤ a → round a cards ≡ roundBy (distinct (readyOf cards)) a cards
-  round-is a some = round-at a some (distinct (readyOf cards)) refl
+  pub round-is : (a : ℕ) → 1 ≤ a → round a cards ≡ roundBy (distinct (readyIdentifiers cards)) a cards
+  round-is a some = round-at a some (distinct (readyIdentifiers cards)) refl
 
   -- ---- what CMD2 shows
-  pub shows-first : (m : ℕ) (ms : List ℕ) → distinct (readyOf cards) ≡ m ∷ ms → cidLine cards ≡ 0x3F ∷ cidOf m
+  pub shows-first : (m : ℕ) (ms : List ℕ) → distinct (readyIdentifiers cards) ≡ m ∷ ms → cidLine cards ≡ 0x3F ∷ cidOf m
   unfolding cidLine cidOf
   shows-first m ms e =
-      let c = ready-from cards m (distinct-from (readyOf cards) m (subst (List·Memᴰ m) (sym e) (List·Memᴰ·head refl))) in
+      let c = ready-from cards m (distinct-from (readyIdentifiers cards) m (subst (List·Memᴰ m) (sym e) (List·Memᴰ·head refl))) in
       let shown : List ℕ = contested cidBits (map cidSender cards) in
       let back = spelt-back cidBits shown (contested-length cidBits (map cidSender cards)) (contested-below cidBits (map cidSender cards)) in
       ap (λ (t : Bool). pick t (0x3F ∷ octets 16 shown) []) (any-ready cards (c .0) (c .1) (c .2))
       ∙ ap (λ (l : List ℕ). 0x3F ∷ octets 16 l) (sym back ∙ ap (bitsOf cidBits) (line-first m ms e))
 
-  pub shows-none : distinct (readyOf cards) ≡ [] → cidLine cards ≡ []
+  pub shows-none : distinct (readyIdentifiers cards) ≡ [] → cidLine cards ≡ []
   unfolding cidLine
   shows-none e =
       ap (λ (t : Bool). pick t (0x3F ∷ octets 16 (contested cidBits (map cidSender cards))) [])

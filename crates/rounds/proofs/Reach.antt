@@ -19,9 +19,9 @@ use lib.ListN.{length, take, getD}
 use Rattle.base.proofs.Cases.{cases}
 use Rattle.base.specs.Choice.{pick}
 use Rattle.bus.specs.Bus.{isReady}
-use Rattle.record.specs.declared.Card.{Card}
+use Rattle.card_record.specs.declared.Card.{Card}
 use Rattle.rounds.proofs.Distinct.{under-member, distinct-ascending, distinct-has, without, distinct-without, without-first, rank-under}
-use Rattle.rounds.specs.Demand3.{identifier, readyOf, reached}
+use Rattle.rounds.specs.Demand3.{identifier, readyIdentifiers, reached}
 use Rattle.rounds.specs.Distinct.{distinct, rank, Under, Ascending}
 
 pub map-on : {A B : Type 0} (f g : A → B) (l : List A) → ((x : A) → List·Memᴰ x l → f x ≡ g x) → map f l ≡ map g l
@@ -73,8 +73,8 @@ reach-yet (a ∷ addresses) (suc j) c = reach-yet addresses j c
 unfoldable pub final : List ℕ → List ℕ → Card → Card
 final addresses ids c = pick (isReady c) (reach addresses (rank ids (identifier c)) c) c
 
-ready-round : (m a : ℕ) (l : List Card) → readyOf (map (one m a) l) ≡ without m (readyOf l)
-unfolding readyOf without one
+ready-round : (m a : ℕ) (l : List Card) → readyIdentifiers (map (one m a) l) ≡ without m (readyIdentifiers l)
+unfolding readyIdentifiers without one
 ready-round m a [] = refl
 ready-round m a (c ∷ l) =
     cases (isReady c)
@@ -83,19 +83,19 @@ ready-round m a (c ∷ l) =
     (λ q. rw (p, q, p) (ap (λ t. identifier c ∷ t) (ready-round m a l))))
     (λ p. simp p (ready-round m a l))
 
-pub ready-member : (l : List Card) (c : Card) → List·Memᴰ c l → isReady c ≡ true → List·Memᴰ (identifier c) (readyOf l)
-unfolding readyOf
+pub ready-member : (l : List Card) (c : Card) → List·Memᴰ c l → isReady c ≡ true → List·Memᴰ (identifier c) (readyIdentifiers l)
+unfolding readyIdentifiers
 ready-member [] c m p = absurd (List·Memᴰ·not-nil m)
 ready-member (x ∷ l) c (List·Memᴰ·head e) p = rw (sym (ap isReady e) ∙ p) (List·Memᴰ·head (ap identifier e))
 ready-member (x ∷ l) c (List·Memᴰ·tail m) p = cases (isReady x) (λ q. rw q (List·Memᴰ·tail (ready-member l c m p))) (λ q. rw q (ready-member l c m p))
 
 -- after a round, the smallest is gone from the identifiers
-pub ids-next : (m a : ℕ) (ms : List ℕ) (l : List Card) → distinct (readyOf l) ≡ m ∷ ms → distinct (readyOf (map (one m a) l)) ≡ ms
+pub ids-next : (m a : ℕ) (ms : List ℕ) (l : List Card) → distinct (readyIdentifiers l) ≡ m ∷ ms → distinct (readyIdentifiers (map (one m a) l)) ≡ ms
 ids-next m a ms l e =
-    ap distinct (ready-round m a l) ∙ distinct-without m (readyOf l) ∙ ap (without m) e
-    ∙ without-first m ms (subst Ascending e (distinct-ascending (readyOf l)))
+    ap distinct (ready-round m a l) ∙ distinct-without m (readyIdentifiers l) ∙ ap (without m) e
+    ∙ without-first m ms (subst Ascending e (distinct-ascending (readyIdentifiers l)))
 
-pub final-one : (m a : ℕ) (ms addresses : List ℕ) (l : List Card) → distinct (readyOf l) ≡ m ∷ ms → (c : Card) → List·Memᴰ c l
+pub final-one : (m a : ℕ) (ms addresses : List ℕ) (l : List Card) → distinct (readyIdentifiers l) ≡ m ∷ ms → (c : Card) → List·Memᴰ c l
     → final addresses ms (one m a c) ≡ final (a ∷ addresses) (m ∷ ms) c
 unfolding final one rank reach Ascending
 final-one m a ms addresses l e c k =
@@ -105,7 +105,7 @@ final-one m a ms addresses l e c k =
     rw (p, q, le-ltb m (identifier c) (omega arith)) (hit (identifier c) h))
     (λ q. let ne = eqb-false (identifier c) m q in
     let here : List·Memᴰ (identifier c) (m ∷ ms) =
-    subst (List·Memᴰ (identifier c)) e (distinct-has (readyOf l) (identifier c) (ready-member l c k p))
+    subst (List·Memᴰ (identifier c)) e (distinct-has (readyIdentifiers l) (identifier c) (ready-member l c k p))
     in
     let lt : m < identifier c =
     ⊎-elim (λ r. absurd (ne r)) (λ r. under-member m ms (asc .0) (identifier c) r) (List·Memᴰ·cases-cons here)
@@ -114,7 +114,7 @@ final-one m a ms addresses l e c k =
     (λ p. simp p)
   where
     asc : Under m ms × Ascending ms
-    asc = subst Ascending e (distinct-ascending (readyOf l))
+    asc = subst Ascending e (distinct-ascending (readyIdentifiers l))
 
     hit : (x : ℕ) → x ≡ m → reached a c ≡ reach (a ∷ addresses) (rank ms x) c
     hit x h = rw (h, rank-under m ms (asc .0))
@@ -122,15 +122,15 @@ final-one m a ms addresses l e c k =
     miss : (j : ℕ) → reach addresses j c ≡ reach (a ∷ addresses) (suc j) c
     miss j = refl
 
-pub none-ready : (l : List Card) → distinct (readyOf l) ≡ [] → (c : Card) → List·Memᴰ c l → isReady c ≡ true → ⊥
-none-ready l e c k p = List·Memᴰ·not-nil (subst (List·Memᴰ (identifier c)) e (distinct-has (readyOf l) (identifier c) (ready-member l c k p)))
+pub none-ready : (l : List Card) → distinct (readyIdentifiers l) ≡ [] → (c : Card) → List·Memᴰ c l → isReady c ≡ true → ⊥
+none-ready l e c k p = List·Memᴰ·not-nil (subst (List·Memᴰ (identifier c)) e (distinct-has (readyIdentifiers l) (identifier c) (ready-member l c k p)))
 
 pub final-none : (addresses : List ℕ) (ids : List ℕ) (c : Card) → isReady c ≡ false → final addresses ids c ≡ c
 unfolding final
 final-none addresses ids c p = rw p
 
-pub ready-from : (l : List Card) (x : ℕ) → List·Memᴰ x (readyOf l) → (c : Card) × List·Memᴰ c l × (isReady c ≡ true) × (identifier c ≡ x)
-unfolding readyOf
+pub ready-from : (l : List Card) (x : ℕ) → List·Memᴰ x (readyIdentifiers l) → (c : Card) × List·Memᴰ c l × (isReady c ≡ true) × (identifier c ≡ x)
+unfolding readyIdentifiers
 ready-from [] x m = absurd (List·Memᴰ·not-nil m)
 ready-from (y ∷ l) x m =
     cases (isReady y)

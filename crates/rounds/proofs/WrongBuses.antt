@@ -25,21 +25,21 @@ use Rattle.command.specs.Command.{resetTold, concluded, takenOf, commandOf}
 use Rattle.command.specs.Obey.{taggingOf, judgedOf, awaitedBy, obeyed, changeOf}
 use Rattle.crc.specs.Bits.{bits, Below}
 use Rattle.crc.specs.Crc.{divide, remainder}
-use Rattle.line.specs.Line.{line, contested, wins, together}
+use Rattle.shared_line.specs.Line.{line, contested, wins, together}
 use Rattle.lock.specs.Passwords.{holding, noPassword}
 use Rattle.moves.specs.Classes.{classOf}
 use Rattle.moves.specs.Moves.{moveOf}
 use Rattle.moves.specs.Rows.{transferRow, rowOf}
-use Rattle.record.specs.Making.{refusedMake}
-use Rattle.record.specs.Record.{withLink}
-use Rattle.record.specs.declared.Card.{Card}
-use Rattle.states.specs.States.{columnOf, numberOf}
+use Rattle.card_record.specs.Making.{refusedMake}
+use Rattle.card_record.specs.Record.{withLink}
+use Rattle.card_record.specs.declared.Card.{Card}
+use Rattle.states.specs.States.{columnOf, columnNumber}
 use Rattle.states.specs.declared.State.the-variants.{Ready}
 use Rattle.status.specs.Status.{noErrors, wordOf}
 use Rattle.tags.specs.Tagging.{noTags}
-use Rattle.wire.specs.Frames.{crc7Of, sealed, commandFrame, sentOf, framingOf}
+use Rattle.wire.specs.Frames.{crc7Of, sealed, commandFrame, fieldsOf, framingOf}
 use Rattle.wire.specs.Responses.{r1Frame, r2Frame}
-use Rattle.rounds.specs.Demand3.{Step, roundsOf, answer, before, cardAt, readyOf, identifiers, reached, CidBytes, WellFormed, NoneIdentified, Rounds, Demand3}
+use Rattle.rounds.specs.Demand3.{Step, roundsOf, answer, before, cardAt, readyIdentifiers, identifiers, reached, CidBytes, WellFormed, NoneIdentified, Rounds, Demand3}
 use Rattle.rounds.specs.Distinct.{insert, distinct}
 
 -- ---- the sample
@@ -99,7 +99,7 @@ rounds-of step d = d two addresses two-formed (omega arith) two-unidentified ((o
 
 -- there are two distinct identifiers
 two-distinct : length (identifiers two) ≡ 2
-unfolding readyOf distinct insert bits
+unfolding readyIdentifiers distinct insert bits
 two-distinct = refl
 
 -- ---- a bus that does nothing
@@ -119,10 +119,10 @@ frozen says bus frame = record { bus = bus; shown = says bus frame .shown; line 
 
 -- the second card holds the smallest identifier, and is still in Ready after round 1
 pub frozen-refuted : (says : Step) → Demand3 (frozen says) → ⊥
-unfolding readyOf distinct insert bits roundsOf
+unfolding readyIdentifiers distinct insert bits roundsOf
 frozen-refuted says d =
     let e : cardAt two 1 ≡ reached 1 (cardAt two 1) = rounds-of (frozen says) d .reaches 0 (omega arith) (omega arith) 1 (omega arith) (refl, refl) in
-    let state = ap (λ (c : Card). numberOf (columnOf (c .link .state))) e in
+    let state = ap (λ (c : Card). columnNumber (columnOf (c .link .state))) e in
     omega arith
 
 -- ---- one that addresses every card in round 1 and then plays along, whatever it shows
@@ -147,7 +147,7 @@ abbrev shownBy : ℕ → Shown
 shownBy k = answer (hasty busFrame) two addresses k .shown
 
 hasty-shows : (shownBy 0 ≡ Line 17) × (shownBy 1 ≡ Silent)
-unfolding hasty roundsOf refusedMake holding commandFrame sealed crc7Of remainder divide bits busFrame framingOf sentOf commandFor withCards lineOf cidLine andLine frameFrom anyReady longestOf sentBytes r1Frame r2Frame cardAfter commandAt commandOf takenOf concluded judgedOf taggingOf argumentFault resetTold obeyed awaitedBy changeOf responseOf answered wordOf classOf moveOf rowOf transferRow line contested wins together padded
+unfolding hasty roundsOf refusedMake holding commandFrame sealed crc7Of remainder divide bits busFrame framingOf fieldsOf commandFor withCards lineOf cidLine andLine frameFrom anyReady longestOf sentBytes r1Frame r2Frame cardAfter commandAt commandOf takenOf concluded judgedOf taggingOf argumentFault resetTold obeyed awaitedBy changeOf responseOf answered wordOf classOf moveOf rowOf transferRow line contested wins together padded
 hasty-shows = (refl, refl)
 
 pub hasty-refuted : Demand3 (hasty busFrame) → ⊥
@@ -160,11 +160,11 @@ hasty-refuted d =
 
 -- and whatever it shows, the card that should be reached in round 2 has the address of round 1
 hasty-address : (says : Step) → cardAt (before (hasty says) two addresses 2) 0 .link .address ≡ 1
-unfolding hasty roundsOf refusedMake holding commandFrame sealed crc7Of remainder divide bits busFrame framingOf sentOf commandFor withCards cardAfter commandAt commandOf takenOf concluded judgedOf taggingOf argumentFault obeyed awaitedBy responseOf answered classOf moveOf rowOf
+unfolding hasty roundsOf refusedMake holding commandFrame sealed crc7Of remainder divide bits busFrame framingOf fieldsOf commandFor withCards cardAfter commandAt commandOf takenOf concluded judgedOf taggingOf argumentFault obeyed awaitedBy responseOf answered classOf moveOf rowOf
 hasty-address says = refl
 
 pub hasty-late : (says : Step) → Demand3 (hasty says) → ⊥
-unfolding readyOf distinct insert bits
+unfolding readyIdentifiers distinct insert bits
 hasty-late says d =
     let e = rounds-of (hasty says) d .reaches 1 (omega arith) (omega arith) 0 (omega arith) (refl, refl) in
     let address : cardAt (before (hasty says) two addresses 2) 0 .link .address ≡ 2 = ap (λ (c : Card). c .link .address) e in

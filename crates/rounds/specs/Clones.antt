@@ -11,7 +11,7 @@ use Rattle.bus.specs.Bus.{countOf, cardsOf, isReady}
 use Rattle.bus.specs.declared.Bus.{Bus}
 use Rattle.bus.specs.declared.Shown.{Shown}
 use Rattle.bus.specs.declared.Shown.the-variants.{Line, Silent, Refused}
-use Rattle.rounds.specs.Demand3.{Step, roundsOf, answer, cardAt, readyOf, identifiers}
+use Rattle.rounds.specs.Demand3.{Step, roundsOf, answer, cardAt, readyIdentifiers, identifiers}
 
 -- whether the line showed an answer
 abbrev pub isAnswer : Shown → Bool
@@ -30,7 +30,7 @@ answeredRounds step bus addresses = countIf (λ k. isAnswer (answer step bus add
 
 -- the number of cards in Ready
 abbrev pub readyCards : Bus → ℕ
-readyCards bus = length (readyOf (cardsOf bus))
+readyCards bus = length (readyIdentifiers (cardsOf bus))
 
 -- two cards in Ready are clones: "identifier included", the CID of both is the same
 abbrev pub Clones : Bus → ℕ → ℕ → Type 0

@@ -21,10 +21,10 @@ use Rattle.bus.specs.declared.Bus.{Bus}
 use Rattle.bus.specs.declared.Framed.{Framed}
 use Rattle.bus.specs.declared.Shown.the-variants.{Line, Silent}
 use Rattle.crc.specs.Bits.{bitsOf, bits, spelt, octets}
-use Rattle.record.specs.Making.{refusedMake}
-use Rattle.record.specs.Record.{withLink}
-use Rattle.record.specs.declared.Card.{Card}
-use Rattle.states.specs.States.{columnOf, numberOf}
+use Rattle.card_record.specs.Making.{refusedMake}
+use Rattle.card_record.specs.Record.{withLink}
+use Rattle.card_record.specs.declared.Card.{Card}
+use Rattle.states.specs.States.{columnOf, columnNumber}
 use Rattle.states.specs.declared.State.the-variants.{Stby}
 use Rattle.status.specs.Status.{noErrors}
 use Rattle.tags.specs.Tagging.{noTags}
@@ -73,13 +73,13 @@ unfoldable pub cidOf : ℕ → List ℕ
 cidOf number = octets 16 (bitsOf 128 number)
 
 -- the identifiers of the cards in Ready, in the order of their places
-unfoldable pub readyOf : List Card → List ℕ
-readyOf [] = []
-readyOf (card ∷ cards) = pick (isReady card) (identifier card ∷ readyOf cards) (readyOf cards)
+unfoldable pub readyIdentifiers : List Card → List ℕ
+readyIdentifiers [] = []
+readyIdentifiers (card ∷ cards) = pick (isReady card) (identifier card ∷ readyIdentifiers cards) (readyIdentifiers cards)
 
 -- the distinct ones among them, smallest first
 abbrev pub identifiers : Bus → List ℕ
-identifiers bus = distinct (readyOf (cardsOf bus))
+identifiers bus = distinct (readyIdentifiers (cardsOf bus))
 
 -- that one, counted from 0
 abbrev pub nth : Bus → ℕ → ℕ
@@ -106,7 +106,7 @@ WellFormed bus = (length (bus .cards) ≡ 30) × ((place : ℕ) → place < 30 �
 
 -- no card is in Identification
 abbrev pub isIdent : Card → Bool
-isIdent card = eqb (numberOf (columnOf (card .link .state))) 2
+isIdent card = eqb (columnNumber (columnOf (card .link .state))) 2
 
 abbrev pub NoneIdentified : Bus → Type 0
 NoneIdentified bus = (place : ℕ) → place < countOf bus → isIdent (cardAt bus place) ≡ false

@@ -4,7 +4,7 @@
 // Offers: `socket`.
 use card::Call;
 use card::Reply;
-use record::Card;
+use card_record::Card;
 ghost use mathlib.Core.Path.{_≡_};
 ghost use lib.ListN.{length};
 ghost use Rattle.card.specs.Step.{stepOf, memoryOf, mapOf, outputOf};

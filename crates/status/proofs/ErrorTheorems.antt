@@ -21,7 +21,7 @@ use Rattle.base.proofs.Span.{below}
 use Rattle.base.specs.Choice.{pick}
 use Rattle.status.specs.Bits.{bitAt}
 use Rattle.status.specs.ErrorBits.{placeOf, errorBits, errorBit, wordWith}
-use Rattle.status.specs.Status.{withBit, takenOf, shown}
+use Rattle.status.specs.Status.{withBit, commandBitsCleared, shown}
 use Rattle.status.specs.declared.ErrorBit.{ErrorBit}
 use Rattle.status.specs.declared.ErrorBit.the-variants.{OutOfRange, AddressError, BlockLenError, EraseSeqError, EraseParam, WpViolation, LockUnlockFailed, ComCrcError, IllegalCommand, WpEraseSkip, EraseReset}
 use Rattle.status.specs.declared.Errors.{Errors}
@@ -91,11 +91,11 @@ pub set-others : (e : Errors) (b : ErrorBit) (k : ℕ) → (k ≡ placeOf b → 
 set-others e b k h =
     bit-or k (e .bits) (2 ^ placeOf b) ∙ ap (max (bitAt k (e .bits))) (bit-other k (placeOf b) h) ∙ max-zero (bitAt k (e .bits))
 
-pub taken-clears : (e : Errors) → (bitAt 23 (takenOf e .bits) ≡ 0) × (bitAt 22 (takenOf e .bits) ≡ 0)
+pub taken-clears : (e : Errors) → (bitAt 23 (commandBitsCleared e .bits) ≡ 0) × (bitAt 22 (commandBitsCleared e .bits) ≡ 0)
 taken-clears e =
     (bit-and 23 (e .bits) allBut ∙ min-zero (bitAt 23 (e .bits)), bit-and 22 (e .bits) allBut ∙ min-zero (bitAt 22 (e .bits)))
 
-pub taken-keeps : (e : Errors) (k : ℕ) → k < 32 → (k ≡ 23 → ⊥) → (k ≡ 22 → ⊥) → bitAt k (takenOf e .bits) ≡ bitAt k (e .bits)
+pub taken-keeps : (e : Errors) (k : ℕ) → k < 32 → (k ≡ 23 → ⊥) → (k ≡ 22 → ⊥) → bitAt k (commandBitsCleared e .bits) ≡ bitAt k (e .bits)
 unfolding right-but
 taken-keeps e k h h23 h22 =
     let kept : bitAt k allBut ≡ 1 = eqb→eq (bitAt k allBut) 1 (simp (ne-eqb k 23 h23, ne-eqb k 22 h22) at (below right-but 32 tt k h)) in

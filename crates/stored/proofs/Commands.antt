@@ -17,7 +17,7 @@ use Rattle.card.proofs.Outcomes.{FrameOutcome, unheard, damaged, commands, fram
 use Rattle.card.specs.Frame.{metAlone, frameJudged}
 use Rattle.card.specs.declared.FrameJudged.{FrameJudged}
 use Rattle.command.specs.Answers.{silent, answered}
-use Rattle.command.specs.Command.{askedOf, concluded, takenOf, movedBy, commandOf}
+use Rattle.command.specs.Command.{receivedOf, concluded, takenOf, movedBy, commandOf}
 use Rattle.command.specs.Obey.{passesLock, taggingOf, judgedOf, changeOf}
 use Rattle.command.specs.declared.Change.{Change}
 use Rattle.command.specs.declared.Change.the-variants.{Nothing, Protect, Erase}
@@ -31,10 +31,10 @@ use Rattle.moves.specs.Rows.{rowOf}
 use Rattle.moves.specs.declared.Move.{Move}
 use Rattle.moves.specs.declared.Move.the-variants.{Ignored, Silent, Illegal, To}
 use Rattle.moves.specs.declared.Row.{Row}
-use Rattle.record.specs.Power.{freshLink}
-use Rattle.record.specs.Record.{sizeOf, withErrors, withTags}
-use Rattle.record.specs.declared.Card.{Card}
-use Rattle.record.specs.declared.Link.{Link}
+use Rattle.card_record.specs.Power.{freshLink}
+use Rattle.card_record.specs.Record.{sizeOf, withErrors, withTags}
+use Rattle.card_record.specs.declared.Card.{Card}
+use Rattle.card_record.specs.declared.Link.{Link}
 use Rattle.states.specs.States.{columnOf}
 use Rattle.states.specs.declared.Column.{Column}
 use Rattle.status.specs.ErrorBits.{errorBit}
@@ -42,7 +42,7 @@ use Rattle.status.specs.declared.ErrorBit.{ErrorBit}
 use Rattle.status.specs.declared.Errors.{Errors}
 use Rattle.status.specs.declared.Fault.{Fault}
 use Rattle.status.specs.declared.Fault.the-variants.{None, Bit}
-use Rattle.tags.specs.Tagging.{failed}
+use Rattle.tags.specs.Tagging.{tagFailed}
 use Rattle.tags.specs.declared.Tagging.{Tagging}
 use Rattle.tags.specs.declared.Tags.{Tags}
 use Rattle.wire.specs.Frames.{frameOf}
@@ -54,7 +54,7 @@ module _ (link : Link) (met : Met) (index argument : ℕ) where
     reset : index ≡ 0 → Took (silent freshLink)
     obeyed : (next : Link) (sent : Sent) → passesLock (met .locked) index ≡ true → Took (record { link = next; sent = sent; change = changeOf index argument })
 
-  no-error : (t : Bool) (bit : ErrorBit) (rest : Tagging) → unless t (failed bit) rest .error ≡ None → t ≡ true
+  no-error : (t : Bool) (bit : ErrorBit) (rest : Tagging) → unless t (tagFailed bit) rest .error ≡ None → t ≡ true
   no-error true bit rest e = refl
   no-error false bit rest e = clash cc
 
@@ -63,17 +63,17 @@ module _ (link : Link) (met : Met) (index argument : ℕ) where
   passes e = no-error (passesLock (met .locked) index) (errorBit 24) (taggingOf link (sizeOf (met .groups)) index argument) e
 
   concludes : (row : Row) (column : Column) (tags : Tags) (fault : Fault) → (fault ≡ None → passesLock (met .locked) index ≡ true)
-      → Took (concluded link met (askedOf link met index argument) row column tags fault)
+      → Took (concluded link met (receivedOf link met index argument) row column tags fault)
   unfolding concluded answered
   concludes row column tags None p = obeyed _ _ (p refl)
   concludes row column tags (Bit bit) p = stopped tags _ _
 
-  takes : (row : Row) (column : Column) → Took (takenOf link met (askedOf link met index argument) row column)
+  takes : (row : Row) (column : Column) → Took (takenOf link met (receivedOf link met index argument) row column)
   unfolding takenOf
   takes row column =
       picked Took (eqb index 0) (λ t. reset (eqb-true index 0 t)) (λ t. concludes row column _ _ passes)
 
-  moves : (row : Row) (move : Move) → Took (movedBy link met (askedOf link met index argument) row move)
+  moves : (row : Row) (move : Move) → Took (movedBy link met (receivedOf link met index argument) row move)
   moves row Ignored = stopped (link .tags) (link .errors) _
   moves row Silent = stopped (link .tags) (link .errors) _
   moves row Illegal = stopped (link .tags) _ _
@@ -82,7 +82,7 @@ module _ (link : Link) (met : Met) (index argument : ℕ) where
   pub took : Took (commandOf link met index argument)
   unfolding commandOf
   took =
-      let row : Row = rowOf (askedOf link met index argument) in
+      let row : Row = rowOf (receivedOf link met index argument) in
       moves row (moveOf row (columnOf (link .state)))
 
 -- ---- what changes in what is lent

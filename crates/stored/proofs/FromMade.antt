@@ -19,8 +19,8 @@ use Rattle.card.specs.declared.Call.{Call}
 use Rattle.card.specs.declared.Outcome.the-variants.{Done}
 use Rattle.lock.proofs.Stored.{stored-length}
 use Rattle.made.specs.Made.{Waits, Awaits, Made}
-use Rattle.record.specs.Record.{sizeOf}
-use Rattle.record.specs.declared.Card.{Card}
+use Rattle.card_record.specs.Record.{sizeOf}
+use Rattle.card_record.specs.declared.Card.{Card}
 use Rattle.states.specs.declared.Incoming.{Incoming}
 use Rattle.states.specs.declared.Incoming.the-variants.{One, Many}
 use Rattle.states.specs.declared.State.the-variants.{Rcv}

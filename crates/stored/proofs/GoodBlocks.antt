@@ -17,11 +17,11 @@ use Rattle.card.specs.BlockIn.{blockGood, writeJudged, awaitedJudged, blockJudg
 use Rattle.card.specs.declared.BlockJudged.{BlockJudged}
 use Rattle.card.specs.declared.Outcome.the-variants.{Done}
 use Rattle.crc.specs.Crc.{crc16}
-use Rattle.record.specs.Record.{sizeOf}
+use Rattle.card_record.specs.Record.{sizeOf}
 use Rattle.states.specs.declared.Incoming.{Incoming}
 use Rattle.states.specs.declared.Incoming.the-variants.{One, Many}
 use Rattle.states.specs.declared.State.the-variants.{Rcv}
-use Rattle.wire.specs.Blocks.{blockOf, carried, told}
+use Rattle.wire.specs.Blocks.{blockOf, payloadOf, crcIn}
 use Rattle.wire.proofs.BlockTheorems.{long, good, check-after-write}
 use Rattle.stored.specs.ReadBack.{World, after, blockIn, storedThenRead, storedStoppedThenRead, Awaiting, Writable}
 use Rattle.stored.proofs.ReadBack.{read-back, read-back-many}
@@ -30,9 +30,9 @@ module _ (w : World) (payload : List ℕ) (at : ℕ) (sector : length payload �
   block-long : length (blockOf payload) ≡ 514
   block-long = omega (arith, long payload)
 
-  crc-right : eqb (told (blockOf payload)) (crc16 (carried (blockOf payload))) ≡ true
+  crc-right : eqb (crcIn (blockOf payload)) (crc16 (payloadOf (blockOf payload))) ≡ true
   crc-right =
-      eq-eqb (told (blockOf payload)) (crc16 (carried (blockOf payload)))
+      eq-eqb (crcIn (blockOf payload)) (crc16 (payloadOf (blockOf payload)))
       (good (blockOf payload) (length payload) (check-after-write payload (omega arith) (omega arith)) .crc)
 
   in-memory : at / 512 < sizeOf (w .card .registers .groups) / 512

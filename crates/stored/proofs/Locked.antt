@@ -20,7 +20,7 @@ use Rattle.base.specs.Refusals.{by}
 use Rattle.card.proofs.Outcomes.{InOutcome, unreads, refuses, stores, grants, forces, OutOutcome, unsends, past, across, sends, FrameOutcome, unheard, damaged, commands, block-outcome, out-outcome, frame-outcome, told}
 use Rattle.card.specs.BlockIn.{blockRefused, blockGood, blockJudged}
 use Rattle.card.specs.BlockOut.{outRefused, outGood}
-use Rattle.card.specs.Frame.{metAlone, frameRefused, commanded, spares, frameJudged, frameOf, erasedBy, protectedBy}
+use Rattle.card.specs.Frame.{metAlone, frameRefused, commanded, spares, frameJudged, frameStepped, erasedBy, protectedBy}
 use Rattle.card.specs.Step.{stepOf, memoryOf, mapOf}
 use Rattle.card.specs.declared.BlockJudged.{BlockJudged}
 use Rattle.card.specs.declared.Call.{Call}
@@ -40,13 +40,13 @@ use Rattle.lock.specs.declared.Lock.{Lock}
 use Rattle.lock.specs.declared.Requested.{Requested}
 use Rattle.lock.proofs.Carried.{presented-parts}
 use Rattle.moves.specs.Classes.{classOf}
-use Rattle.record.specs.Power.{poweredOn, worked}
-use Rattle.record.specs.Record.{csdProtects, withLink}
-use Rattle.record.specs.declared.Card.{Card}
-use Rattle.record.specs.declared.Link.{Link}
-use Rattle.states.specs.States.{columnOf, numberOf}
-use Rattle.wire.specs.Blocks.{carried as payloadOf}
-use Rattle.wire.specs.Frames.{frameOf as readOf}
+use Rattle.card_record.specs.Power.{poweredOn, worked}
+use Rattle.card_record.specs.Record.{csdProtects, withLink}
+use Rattle.card_record.specs.declared.Card.{Card}
+use Rattle.card_record.specs.declared.Link.{Link}
+use Rattle.states.specs.States.{columnOf, columnNumber}
+use Rattle.wire.specs.Blocks.{payloadOf}
+use Rattle.wire.specs.Frames.{frameStepped as readOf}
 use Rattle.wire.specs.declared.Frame.the-variants.{Command}
 use Rattle.stored.specs.Changes.{SetBy, ForcedErase, Cause, written, erased, forced, MapCause, set}
 use Rattle.stored.specs.Locked.{LockedCard, UnlockGranted, Unlocking, none-stored, unlocked, Unmoved}
@@ -141,8 +141,8 @@ module _ (card : Card) where
   framed-lock frame memory map damaged = refl
   framed-lock frame memory map (commands index argument e l) = refl
 
-  frame-lock : (frame : List ℕ) (memory : ℕ) (map : List ℕ) → frameOf card frame memory map .card .lock ≡ card .lock
-  unfolding frameOf
+  frame-lock : (frame : List ℕ) (memory : ℕ) (map : List ℕ) → frameStepped card frame memory map .card .lock ≡ card .lock
+  unfolding frameStepped
   frame-lock frame memory map =
       let same = framed-lock frame memory map (frame-outcome card frame memory map) in
       told (λ (s : Stepped). s .card .lock ≡ card .lock) (frameJudged card frame memory map .stepped)
@@ -194,7 +194,7 @@ module _ (card : Card) (frame : List ℕ) (memory : ℕ) (map : List ℕ) (index
     damage-held : Held (frameRefused (withLink card (damagedLink (card .link))) (by 3))
     unfolding damagedLink
     damage-held =
-        picked (λ (l : Link). Held (frameRefused (withLink card l) (by 3))) (eqb (numberOf (columnOf (card .link .state))) 9)
+        picked (λ (l : Link). Held (frameRefused (withLink card l) (by 3))) (eqb (columnNumber (columnOf (card .link .state))) 9)
         (λ t. record { state = refl; address = refl; length-kept = refl; change = refl })
         (λ t. record { state = refl; address = refl; length-kept = refl; change = refl })
 
@@ -208,7 +208,7 @@ module _ (card : Card) (frame : List ℕ) (memory : ℕ) (map : List ℕ) (index
 
 module _ (card : Card) (frame memory map : List ℕ) (room index argument : ℕ) (locked : card .lock .locked ≡ true) (is : readOf frame ≡ Command index argument) where
   pub held-back : passesLock true index ≡ false → Unmoved card frame memory map room
-  unfolding frameOf
+  unfolding frameStepped
   held-back stops =
       let judged : FrameJudged = frameJudged card frame (length memory) map in
       let spared : Bool = spares card (length memory) map (judged .change) in

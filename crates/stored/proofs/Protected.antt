@@ -24,13 +24,13 @@ use Rattle.card.specs.declared.Storing.the-variants.{All}
 use Rattle.lock.specs.declared.Answer.the-variants.{Erased}
 use Rattle.lock.specs.declared.Requested.{Requested}
 use Rattle.made.proofs.Run.{memory-length}
-use Rattle.record.specs.Record.{csdProtects}
-use Rattle.record.specs.declared.Card.{Card}
+use Rattle.card_record.specs.Record.{csdProtects}
+use Rattle.card_record.specs.declared.Card.{Card}
 use Rattle.states.specs.declared.Incoming.{Incoming}
 use Rattle.states.specs.declared.Incoming.the-variants.{LockRequest}
 use Rattle.states.specs.declared.State.the-variants.{Rcv}
 use Rattle.store.specs.Map.{protectedIn}
-use Rattle.wire.specs.Blocks.{carried}
+use Rattle.wire.specs.Blocks.{payloadOf}
 use Rattle.stored.specs.Changes.{AwaitsWrite, ProtectedByte, ForcedErase, Cause, written, erased, forced}
 use Rattle.stored.proofs.Changes.{memory-changes}
 use Rattle.stored.proofs.Requests.{Asks, fails, unlocks, others, erases, asks}
@@ -63,7 +63,7 @@ module _ (card : Card) (block : List ℕ) (memory : ℕ) (map : List ℕ) where
   abbrev Locked : Type 0
   Locked = (csdProtects (card .registers .csd) ≡ false) × (card .lock .locked ≡ true)
 
-  request-locked : {requested : Requested} → Asks (card .lock) (carried block) (csdProtects (card .registers .csd)) requested
+  request-locked : {requested : Requested} → Asks (card .lock) (payloadOf block) (csdProtects (card .registers .csd)) requested
       → requested .answer ≡ Erased → Locked
   request-locked fails e = clash cc
   request-locked (unlocks b l p) e = clash cc
@@ -76,7 +76,7 @@ module _ (card : Card) (block : List ℕ) (memory : ℕ) (map : List ℕ) where
   all-locked (refuses incoming refusal fault s why) e = clash cc
   all-locked (stores incoming at w s right) e = clash cc
   all-locked (grants s a) e = clash cc
-  all-locked (forces s a) e = request-locked (asks (card .lock) (carried block) (csdProtects (card .registers .csd))) a
+  all-locked (forces s a) e = request-locked (asks (card .lock) (payloadOf block) (csdProtects (card .registers .csd))) a
 
   pub forced-locked : (call : Call) → ForcedErase card call block memory map → (csdProtects (card .registers .csd) ≡ false) × (card .lock .locked ≡ true)
   forced-locked call f = all-locked (block-outcome card block memory map) (f .granted)

@@ -27,9 +27,9 @@ use Rattle.command.specs.Command.{commandOf}
 use Rattle.crc.specs.Crc.{crc16}
 use Rattle.demands.proofs.Frames.{unlent}
 use Rattle.made.proofs.Run.{kept-length}
-use Rattle.record.specs.Power.{workedState, worked}
-use Rattle.record.specs.Record.{sizeOf}
-use Rattle.record.specs.declared.Card.{Card}
+use Rattle.card_record.specs.Power.{workedState, worked}
+use Rattle.card_record.specs.Record.{sizeOf}
+use Rattle.card_record.specs.declared.Card.{Card}
 use Rattle.states.specs.declared.Incoming.{Incoming}
 use Rattle.states.specs.declared.Incoming.the-variants.{One, Many, LockRequest}
 use Rattle.states.specs.declared.Outgoing.the-variants.{One as OneOut}

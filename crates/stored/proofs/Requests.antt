@@ -1,5 +1,5 @@
 -- Every way in which a lock request can go, as far as the flag and what is lent are concerned: one list, and each request is on it.
---   Asks        failed; an unlock with the stored password at a locked card; another request at an unlocked one; a forced erase
+--   Asks        requestFailed; an unlock with the stored password at a locked card; another request at an unlocked one; a forced erase
 --   asks        each request is one of these
 -- Assumes nothing.
 use mathlib.Core.Path.{_≡_}
@@ -11,15 +11,15 @@ use lib.Dec.{eqb, leb}
 use lib.ListN.{length, getD}
 use Rattle.base.proofs.Cases.{cases, picked, guarded}
 use Rattle.lock.specs.Passwords.{noPassword, flagged}
-use Rattle.lock.specs.Requests.{askedBy, settable, presented, allowed, failed, doneOf, requestOf}
+use Rattle.lock.specs.Requests.{askedBy, settable, presented, allowed, requestFailed, doneOf, requestOf}
 use Rattle.lock.specs.declared.Answer.the-variants.{Granted, Erased}
-use Rattle.lock.specs.declared.Asked.{Asked}
+use Rattle.lock.specs.declared.Operation.{Operation}
 use Rattle.lock.specs.declared.Lock.{Lock}
 use Rattle.lock.specs.declared.Requested.{Requested}
 
 module _ (lock : Lock) (payload : List ℕ) (protected : Bool) where
   pub data Asks : Requested → Type 0 where
-    fails : Asks (failed lock)
+    fails : Asks (requestFailed lock)
     unlocks : getD payload 0 0 ≡ 0 → lock .locked ≡ true → presented lock payload ≡ true → Asks (record { lock = flagged lock false; answer = Granted })
     others : (next : Lock) → lock .locked ≡ false → Asks (record { lock = next; answer = Granted })
     erases : getD payload 0 0 ≡ 8 → lock .locked ≡ true → protected ≡ false → Asks (record { lock = noPassword; answer = Erased })
@@ -27,7 +27,7 @@ module _ (lock : Lock) (payload : List ℕ) (protected : Bool) where
   abbrev byte : ℕ
   byte = getD payload 0 0
 
-  abbrev Done : Asked → Type 0
+  abbrev Done : Operation → Type 0
   Done asked = Asks (doneOf asked lock payload protected)
 
   first-zero : byte ≡ 0 → allowed byte (lock .locked) ≡ true → Done (askedBy byte)

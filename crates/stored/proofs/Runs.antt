@@ -17,9 +17,9 @@ use Rattle.command.specs.declared.Commanded.{Commanded}
 use Rattle.command.specs.declared.Met.{Met}
 use Rattle.moves.specs.Moves.{moveOf}
 use Rattle.moves.specs.Rows.{transferRow, rowOf}
-use Rattle.record.specs.Record.{sizeOf}
-use Rattle.record.specs.declared.Card.{Card}
-use Rattle.record.specs.declared.Link.{Link}
+use Rattle.card_record.specs.Record.{sizeOf}
+use Rattle.card_record.specs.declared.Card.{Card}
+use Rattle.card_record.specs.declared.Link.{Link}
 use Rattle.states.specs.declared.Incoming.{Incoming}
 use Rattle.states.specs.declared.Outgoing.the-variants.{One}
 use Rattle.states.specs.declared.State.{State}

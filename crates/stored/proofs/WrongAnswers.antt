@@ -36,12 +36,12 @@ use Rattle.command.specs.declared.Change.the-variants.{Protect}
 use Rattle.crc.specs.Bits.{bits}
 use Rattle.crc.specs.Crc.{divide, remainder, checkSum, crc16}
 use Rattle.lock.specs.Passwords.{stored, same, holding, noPassword}
-use Rattle.lock.specs.Requests.{carried as passwordIn, presented, requestOf}
+use Rattle.lock.specs.Requests.{passwordIn, presented, requestOf}
 use Rattle.lock.specs.declared.Lock.{Lock}
 use Rattle.moves.specs.Moves.{moveOf}
 use Rattle.moves.specs.Rows.{transferRow, rowOf}
-use Rattle.record.specs.Record.{csdProtects}
-use Rattle.record.specs.declared.Card.{Card}
+use Rattle.card_record.specs.Record.{csdProtects}
+use Rattle.card_record.specs.declared.Card.{Card}
 use Rattle.states.specs.declared.Incoming.the-variants.{One, LockRequest}
 use Rattle.states.specs.declared.State.{State}
 use Rattle.states.specs.declared.State.the-variants.{Tran, Rcv}
@@ -54,8 +54,8 @@ use Rattle.tags.specs.Tags.{taggedOf}
 use Rattle.tags.specs.declared.Kind.the-variants.{Sectors}
 use Rattle.tags.specs.declared.Range.the-variants.{Full}
 use Rattle.tags.specs.declared.Tags.{Tags}
-use Rattle.wire.specs.Blocks.{blockOf, carried as payloadOf}
-use Rattle.wire.specs.Frames.{crc7Of, sealed, commandFrame, sentOf, framingOf, frameOf}
+use Rattle.wire.specs.Blocks.{blockOf, payloadOf}
+use Rattle.wire.specs.Frames.{crc7Of, sealed, commandFrame, fieldsOf, framingOf, frameOf}
 use Rattle.wire.specs.declared.Frame.the-variants.{Command}
 use Rattle.stored.specs.Changes.{SetBy, GrantedWrite, Cause, written, erased as by-tag, forced, MapCause, set}
 use Rattle.stored.specs.Locked.{UnlockGranted, Unlocking, none-stored, unlocked}
@@ -154,7 +154,7 @@ unfolding blockJudged awaitedJudged writeJudged blockGood keptOf sectorWritten b
 write-happens = refl
 
 erase-happens : getD (memoryOf (sample Tran 512 noPassword (tagsOf (Full Sectors 1 1))) Frame (commandFrame 38 0) (replicate 8192 0) (0 ∷ [])) 512 0 ≡ 0xFF
-unfolding frameJudged commandOf rowOf transferRow moveOf takenOf judgedOf taggingOf concluded answered changeOf holding entriesRight erased erasedTo sectorErased erasedSector sectorWritten commandFrame sealed crc7Of remainder divide bits framingOf sentOf
+unfolding frameJudged commandOf rowOf transferRow moveOf takenOf judgedOf taggingOf concluded answered changeOf holding entriesRight erased erasedTo sectorErased erasedSector sectorWritten commandFrame sealed crc7Of remainder divide bits framingOf fieldsOf
 erase-happens = refl
 
 force-happens : getD (memoryOf (sample (Rcv LockRequest) 1 (holding (7 ∷ []) true) noTags) BlockIn (blockOf (8 ∷ [])) (replicate 8192 0) (1 ∷ [])) 512 0 ≡ 0xFF
@@ -166,11 +166,11 @@ unfolding blockJudged awaitedJudged requestJudged requestOf blockGood blockOf cr
 clear-happens = refl
 
 protect-happens : mapOf (sample Tran 512 noPassword noTags) Frame (commandFrame 28 0) 8192 (0 ∷ []) ≡ 1 ∷ []
-unfolding frameJudged commandOf rowOf transferRow moveOf takenOf judgedOf taggingOf argumentFault concluded answered changeOf holding entriesRight commandFrame sealed crc7Of remainder divide bits framingOf sentOf
+unfolding frameJudged commandOf rowOf transferRow moveOf takenOf judgedOf taggingOf argumentFault concluded answered changeOf holding entriesRight commandFrame sealed crc7Of remainder divide bits framingOf fieldsOf
 protect-happens = refl
 
 free-happens : mapOf (sample Tran 512 noPassword noTags) Frame (commandFrame 29 0) 8192 (1 ∷ []) ≡ 0 ∷ []
-unfolding frameJudged commandOf rowOf transferRow moveOf takenOf judgedOf taggingOf argumentFault concluded answered changeOf holding entriesRight commandFrame sealed crc7Of remainder divide bits framingOf sentOf
+unfolding frameJudged commandOf rowOf transferRow moveOf takenOf judgedOf taggingOf argumentFault concluded answered changeOf holding entriesRight commandFrame sealed crc7Of remainder divide bits framingOf fieldsOf
 free-happens = refl
 
 unlock-happens : stepOf (sample (Rcv LockRequest) 3 (holding (7 ∷ []) true) noTags) BlockIn (blockOf (0 ∷ 1 ∷ 7 ∷ [])) 8192 (0 ∷ []) 0 .card .lock .locked ≡ false

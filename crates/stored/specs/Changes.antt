@@ -13,8 +13,8 @@ use Rattle.card.specs.declared.Call.the-variants.{Frame, BlockIn}
 use Rattle.card.specs.declared.Outcome.the-variants.{Done}
 use Rattle.card.specs.declared.Storing.the-variants.{All}
 use Rattle.command.specs.declared.Change.the-variants.{Protect, Erase}
-use Rattle.record.specs.Record.{csdProtects}
-use Rattle.record.specs.declared.Card.{Card}
+use Rattle.card_record.specs.Record.{csdProtects}
+use Rattle.card_record.specs.declared.Card.{Card}
 use Rattle.states.specs.declared.Incoming.the-variants.{One, Many}
 use Rattle.states.specs.declared.State.the-variants.{Rcv}
 use Rattle.store.specs.Map.{protectedIn}

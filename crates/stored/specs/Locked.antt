@@ -10,11 +10,11 @@ use Rattle.card.specs.declared.Call.{Call}
 use Rattle.card.specs.declared.Call.the-variants.{Frame, BlockIn, PowerOn}
 use Rattle.card.specs.declared.Outcome.the-variants.{Done}
 use Rattle.lock.specs.Passwords.{stored}
-use Rattle.lock.specs.Requests.{carried as passwordIn}
-use Rattle.record.specs.declared.Card.{Card}
+use Rattle.lock.specs.Requests.{passwordIn}
+use Rattle.card_record.specs.declared.Card.{Card}
 use Rattle.states.specs.declared.Incoming.the-variants.{LockRequest}
 use Rattle.states.specs.declared.State.the-variants.{Rcv}
-use Rattle.wire.specs.Blocks.{carried as payloadOf}
+use Rattle.wire.specs.Blocks.{payloadOf}
 use Rattle.stored.specs.Changes.{AwaitsWrite, ForcedErase}
 
 -- a locked card that awaits no write: "Locked: only class 0 and CMD42 go on", so none of a locked card's commands makes it await one

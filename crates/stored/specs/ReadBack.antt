@@ -10,8 +10,8 @@ use Rattle.card.specs.declared.Call.{Call}
 use Rattle.card.specs.declared.Call.the-variants.{Frame, BlockIn, BlockOut, WorkDone}
 use Rattle.card.specs.declared.Outcome.{Outcome}
 use Rattle.card.specs.declared.Outcome.the-variants.{Wrote}
-use Rattle.record.specs.Record.{sizeOf, csdProtects}
-use Rattle.record.specs.declared.Card.{Card}
+use Rattle.card_record.specs.Record.{sizeOf, csdProtects}
+use Rattle.card_record.specs.declared.Card.{Card}
 use Rattle.store.specs.Map.{lentRight, protectedIn}
 use Rattle.wire.specs.Blocks.{blockOf}
 use Rattle.wire.specs.Frames.{commandFrame}

@@ -7,7 +7,7 @@
 use status::ErrorBit;
 use status::Fault;
 ghost use mathlib.Core.Path.{_≡_};
-ghost use Rattle.tags.specs.Tagging.{tagsOf, noTags, anyOf, placeIn, failed, sameKind, hasStart, firstOf, oneGroup, startTagged, endTagged};
+ghost use Rattle.tags.specs.Tagging.{tagsOf, noTags, anyOf, placeIn, tagFailed, sameKind, hasStart, firstOf, oneGroup, startTagged, endTagged};
 ghost use Rattle.tags.specs.Tags.{within, taggedOf, firstSector, lastSector, eraseOf};
 
 pub enum Kind {
@@ -101,7 +101,7 @@ fn place_in(kind: Kind, address: u32) -> u32
 
 // An error in a tag command drops the tags.
 fn fail(bit: ErrorBit) -> Tagging
-    ensures { λ r. ⌜ r ≡ failed bit ⌝ }
+    ensures { λ r. ⌜ r ≡ tagFailed bit ⌝ }
 {
     Tagging {
         tags: no_tags(),

@@ -26,7 +26,7 @@ fn say_text(answer: Written, text: &[u8])
 
 fn say_decimal(n: u64) {
     let mut text = [0u8; 20];
-    let answer = lines::decimal(n, &mut text);
+    let answer = text::decimal(n, &mut text);
     say_text(answer, &text);
 }
 
@@ -39,7 +39,7 @@ pub fn say_hex(bytes: &[u8])
         return;
     }
     let mut text = [0u8; 80];
-    let answer = lines::hex(bytes, &mut text);
+    let answer = text::hex(bytes, &mut text);
     say_text(answer, &text);
 }
 

@@ -29,7 +29,7 @@ use Rattle.base.specs.declared.Written.the-variants.{Bytes}
 use Rattle.crc.specs.Bits.{bitsOf, bits, octets}
 use Rattle.crc.specs.Crc.{divide, remainder, checkSum, crc7, crc16}
 use Rattle.wire.specs.Blocks.{blockWritten, checkedOf}
-use Rattle.wire.specs.Frames.{crc7Of, sealed, commandFrame, indexed, sentOf, framingOf}
+use Rattle.wire.specs.Frames.{crc7Of, sealed, commandFrame, indexed, fieldsOf, framingOf}
 use Rattle.wire.specs.Responses.{r1Frame, r2Frame, r3Frame, lastByte, registerRight}
 use Rattle.wire.specs.declared.Checked.the-variants.{Payload, Refused}
 use Rattle.wire.specs.declared.Framing.the-variants.{Framed}
@@ -47,7 +47,7 @@ abbrev a3 : R3
 a3 = record { ocr = 0x00FF8000 }
 
 crc7-of-four : framingOf (0x40 ∷ 0x00 ∷ 0x00 ∷ 0x00 ∷ 0x00 ∷ 0x95 ∷ []) ≡ Framed 0 0 false → ⊥
-unfolding framingOf sentOf crc7Of remainder divide bits
+unfolding framingOf fieldsOf crc7Of remainder divide bits
 crc7-of-four e = clash cc
 
 command-index-64 : indexed 64 (commandFrame 64 0) (replicate 6 0) ≡ Bytes 6 → ⊥

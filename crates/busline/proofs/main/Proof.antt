@@ -1,7 +1,7 @@
 -- `busline::main` is safe: the buffer is as long as its array.
 -- Assumes nothing.
 use borrow.Author.Needs.{needs}
-use Rattle.tape.proofs.Buffers.{zeros}
+use Rattle.program_io.proofs.Buffers.{zeros}
 use Rattle.busline.proofs.main.Statement.{statement}
 use Rattle.busline.proofs.main.Tie as tie
 

@@ -5,8 +5,8 @@ use borrow.Author.Needs.{needs}
 use Rattle.command.proofs.Sends.{sendable}
 use Rattle.command.specs.Sending.{sentBytes, Sendable}
 use Rattle.command.specs.declared.Commanded.{Commanded}
-use Rattle.record.specs.Record.{withLink}
-use Rattle.record.specs.declared.Card.{Card}
+use Rattle.card_record.specs.Record.{withLink}
+use Rattle.card_record.specs.declared.Card.{Card}
 use Rattle.bus.specs.Bus.{metWith}
 use Rattle.bus.specs.Hearing.{heardOf, turnOf}
 use Rattle.bus.specs.declared.Heard.{Heard}

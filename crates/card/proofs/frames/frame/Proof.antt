@@ -8,9 +8,9 @@ use borrow.Author.Needs.{needs}
 use denote.Ref.{now}
 use lib.ListN.{length}
 use Rattle.command.specs.declared.Change.{Change}
-use Rattle.record.specs.declared.Card.{Card}
+use Rattle.card_record.specs.declared.Card.{Card}
 use Rattle.store.specs.Erase.{erased, anySpared}
-use Rattle.card.specs.Frame.{spares, sparedTold, erasedBy, protectedBy, frameJudged, frameOf}
+use Rattle.card.specs.Frame.{spares, sparedTold, erasedBy, protectedBy, frameJudged, frameStepped}
 use Rattle.card.specs.declared.FrameJudged.{FrameJudged}
 use Rattle.card.proofs.frames.frame.Statement.{statement}
 use Rattle.card.proofs.frames.frame.Tie as tie
@@ -18,9 +18,9 @@ use Rattle.card.proofs.frames.frame.Tie as tie
 -- what follows from a change that is known: the answer, and that it is the one that the definition has
 told : (card : Card) (frame : List ℕ) (memory : ℕ) (map : List ℕ) (j : FrameJudged) {change : Change} → j ≡ frameJudged card frame memory map
     → j .change ≡ change
-    → (sparedTold (j .stepped) (spares card memory map change) ≡ frameOf card frame memory map)
+    → (sparedTold (j .stepped) (spares card memory map change) ≡ frameStepped card frame memory map)
     × (change ≡ frameJudged card frame memory map .change)
-unfolding frameOf
+unfolding frameStepped
 told card frame memory map j e g = (
   ap (λ (x : Change). sparedTold (j .stepped) (spares card memory map x)) (sym g)
       ∙ ap (λ (x : FrameJudged). sparedTold (x .stepped) (spares card memory map (x .change))) e,

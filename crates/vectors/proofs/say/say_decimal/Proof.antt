@@ -3,7 +3,7 @@
 use native.Mathlib.Omega.{arith}
 use borrow.Author.Needs.{needs}
 use lib.ListN.{replicate}
-use Rattle.lines.specs.Text.{decimalOf}
+use Rattle.text.specs.Text.{decimalOf}
 use Rattle.base.proofs.Output.{within}
 use Rattle.vectors.proofs.say.say_decimal.Statement.{statement}
 use Rattle.vectors.proofs.say.say_decimal.Tie as tie

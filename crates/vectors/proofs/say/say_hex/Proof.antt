@@ -4,7 +4,7 @@ use native.Mathlib.Omega.{arith}
 use borrow.Author.Needs.{needs}
 use denote.Ref.{now}
 use lib.ListN.{replicate}
-use Rattle.lines.specs.Text.{hexOf}
+use Rattle.text.specs.Text.{hexOf}
 use Rattle.base.proofs.Output.{within}
 use Rattle.vectors.proofs.say.say_hex.Statement.{statement}
 use Rattle.vectors.proofs.say.say_hex.Tie as tie
