@@ -8,6 +8,7 @@ use lib.Dec.{eqb}
 use lib.ListN.{replicate}
 use Rattle.base.specs.Choice.{unless}
 use Rattle.base.specs.Refusals.{by}
+use Rattle.base.specs.Sizes.{protectionGroupSize}
 use Rattle.base.specs.declared.Refusal.{Refusal}
 use Rattle.lock.specs.Passwords.{noPassword, lockMade as lockMadeOf}
 use Rattle.lock.specs.declared.Making.{Making as LockMaking}
@@ -50,8 +51,8 @@ passwordMade registers password = lockedBy registers (lockMadeOf password .lock)
 unfoldable pub madeOf : List ℕ → List ℕ → ℕ → List ℕ → ℕ → List ℕ → Made
 madeOf cid csd ocr password memory map =
     unless (sizeAllowed memory) (failedMake (by 7))
-    (unless (mapRight map (memory / 8192)) (failedMake (by 8))
+    (unless (mapRight map (memory / protectionGroupSize)) (failedMake (by 8))
     (unless (registerRight cid) (failedMake (by 9))
     (unless (registerRight csd) (failedMake (by 9))
     (unless (not (eqb (window ocr) 0)) (failedMake (by 10))
-    (passwordMade (record { cid = cid; csd = csd; ocr = ocr; groups = memory / 8192 }) password)))))
+    (passwordMade (record { cid = cid; csd = csd; ocr = ocr; groups = memory / protectionGroupSize }) password)))))

@@ -6,16 +6,18 @@ use Prim.Native.Nat.{ℕ, _+_, _*_, _-_, _/_, _%_, _^_}
 use lib.Dec.{eqb, leb, ltb}
 use lib.ListN.{getD}
 use Rattle.base.specs.Choice.{unless}
+use Rattle.base.specs.Sizes.{protectionGroupSize, readBlockSize}
 use Rattle.lock.specs.declared.Lock.{Lock}
 use Rattle.states.specs.declared.State.{State}
 use Rattle.status.specs.declared.Errors.{Errors}
 use Rattle.tags.specs.declared.Tags.{Tags}
+use Rattle.wire.specs.Blocks.{longestBlock}
 use Rattle.card_record.specs.declared.Card.{Card}
 use Rattle.card_record.specs.declared.Link.{Link}
 
--- "protection group 8,192": the bytes of a memory of so many groups
+-- the bytes of a memory of so many protection groups
 abbrev pub sizeOf : ℕ → ℕ
-sizeOf groups = groups * 8192
+sizeOf groups = groups * protectionGroupSize
 
 -- a bit of a register of 16 bytes, the first byte highest: bit 127 is the highest bit of byte 0
 abbrev pub registerBit : ℕ → List ℕ → ℕ
@@ -25,17 +27,13 @@ registerBit k register = getD register (15 - k / 8) 0 / 2 ^ (k % 8) % 2
 abbrev pub csdProtects : List ℕ → Bool
 csdProtects csd = eqb (registerBit 13 csd) 1 || eqb (registerBit 12 csd) 1
 
--- the longest block: "length 1 to 2,048"
-abbrev pub longest : ℕ
-longest = 2048
-
 -- a block length as it is read: one of 0 or over 2,048, which no CMD16 sets, reads as 2,048
 abbrev pub lengthRead : ℕ → ℕ
-lengthRead length = unless (leb 1 length) longest (unless (leb length longest) longest length)
+lengthRead length = unless (leb 1 length) longestBlock (unless (leb length longestBlock) longestBlock length)
 
--- "physical read block 2,048 bytes": whether a block goes on past the read block in which it begins, "crossing a multiple of 2,048"
+-- whether a block goes on past the physical read block in which it begins: "crossing a multiple of 2,048"
 abbrev pub crosses : ℕ → ℕ → Bool
-crosses at length = ltb 2048 (at % 2048 + length)
+crosses at length = ltb readBlockSize (at % readBlockSize + length)
 
 -- a link, or a card, with one part changed and the others as they were
 abbrev pub withState : Link → State → Link

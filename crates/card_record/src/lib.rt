@@ -4,6 +4,7 @@
 //
 // Offers: `Registers`, `Link`, `Card`; `size`, `csd_protects`, `read_length`, `crosses`, `fresh`; `power_on`,
 // `work_done`; `Making`, `Made`, `make`, `refused_make`.
+use base::PROTECTION_GROUP;
 use base::Refusal;
 use lock::Lock;
 use states::State;
@@ -52,11 +53,16 @@ pub struct Made {
     pub making: Making,
 }
 
+// The sizes of document 01, in the types that they are used in here.
+const LONGEST_BLOCK: u16 = wire::LONGEST_BLOCK as u16;
+
+const READ_BLOCK: u64 = base::READ_BLOCK as u64;
+
 // The bytes of a memory of so many protection groups.
 pub fn size(groups: u16) -> u32
     ensures answer { λ r. ⌜ r ≡ sizeOf groups ⌝ }
 {
-    groups as u32 * 8192
+    groups as u32 * PROTECTION_GROUP
 }
 
 // Whether the CSD protects the whole card: its bit 13 or 12.
@@ -75,10 +81,10 @@ pub fn read_length(length: u16) -> u16
     ensures answer { λ r. ⌜ r ≡ lengthRead length ⌝ }
 {
     if length < 1 {
-        return 2048;
+        return LONGEST_BLOCK;
     }
-    if 2048 < length {
-        return 2048;
+    if LONGEST_BLOCK < length {
+        return LONGEST_BLOCK;
     }
     length
 }
@@ -87,7 +93,7 @@ pub fn read_length(length: u16) -> u16
 pub fn crosses(at: u32, length: u16) -> bool
     ensures answer { λ r. ⌜ r ≡ crosses at length ⌝ }
 {
-    2048 < at as u64 % 2048 + length as u64
+    READ_BLOCK < at as u64 % READ_BLOCK + length as u64
 }
 
 // The link after power-on and after CMD0.
@@ -192,7 +198,7 @@ pub fn make(
     if !store::size_allowed(memory.len()) {
         return fail(Refusal::MemorySize);
     }
-    let groups = memory.len() / 8192;
+    let groups = memory.len() / store::PROTECTION_GROUP;
     if !store::map_right(map, groups) {
         return fail(Refusal::Map);
     }

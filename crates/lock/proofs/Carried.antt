@@ -1,7 +1,7 @@
 -- What a block carries, seen from its byte 1 and the length of the stored password, as the code looks at it.
---   enough             a longEnough block has 2 bytes and those that byte 1 tells of
+--   enough             a block that is long enough has 2 bytes and those that byte 1 tells of
 --   carried-length     it carries as many bytes as byte 1 tells
---   whole-with, carried-with    a payload made of a password is longEnough and carries it
+--   whole-with, carried-with    a payload made of a password is long enough and carries it
 --   new-length         of which the new password has those behind the old one
 --   new-part           where the new password stands in the block
 --   presented-cut .. presented-is    the tests of `presented` in their order, each where it decides

@@ -1,5 +1,5 @@
 -- Laws of the lock requests, for any record, any bytes behind byte 0 and any protection.
---   failed-keeps       a requestFailed request changes nothing
+--   failed-keeps       a failed request changes nothing
 --   empty-fails        a payload of 0 bytes fails
 --   others-fail        so does a byte 0 that is not listed
 --   locked-only        a locked card grants only 0 and 8
@@ -14,7 +14,7 @@
 --   few-fails, many-fail    a total that leaves a new password of 0 bytes, or of over 16
 --   set-holds          a granted set leaves a record of the new password, which has 1 to 16 bytes
 --   set-stores         after a granted set the new password is stored; set and lock locks at once, set leaves the flag
---   surplus-ignored    bytes behind the passwordLength ones do not count
+--   surplus-ignored    bytes behind those that byte 1 tells of do not count
 -- Assumes nothing.
 use mathlib.Core.Path.{_≡_, refl, sym, ap, ap₂, _∙_}
 use mathlib.Core.Bool.{Bool, true, false, not}
@@ -41,7 +41,7 @@ use Rattle.lock.proofs.Stored.{stored-holding}
 abbrev pub Fails : Lock → List ℕ → Bool → ℕ → Type 0
 Fails lock rest protected k = requestOf lock (k ∷ rest) protected ≡ requestFailed lock
 
--- ---- what a requestFailed request leaves
+-- ---- what a failed request leaves
 module _ (lock : Lock) where
   abbrev Kept : Requested → Type 0
   Kept r = r .answer ≡ Failed → r .lock ≡ lock
@@ -140,7 +140,7 @@ module _ (lock : Lock) (rest : List ℕ) (protected : Bool) where
       ∙ ap (unless (longEnough (k ∷ rest)) false) (always (leb 1 (length new)) false)
       ∙ always (longEnough (k ∷ rest)) false)
 
-  -- a set of which longEnough blocks fail fails
+  -- a set of which blocks that are long enough fail fails
   whole-or-not : ((k : ℕ) → longEnough (k ∷ rest) ≡ true → settable lock (k ∷ rest) ≡ false) → Fails lock rest protected 1 × Fails lock rest protected 5
   whole-or-not f = unsettable (λ (k : ℕ). cases (longEnough (k ∷ rest)) (f k) (settable-cut lock (k ∷ rest)))
 

@@ -6,7 +6,7 @@ use Prim.Native.Nat.{ℕ, _+_}
 use lib.Dec.{eqb, leb}
 use lib.ListN.{length, getD, take, drop}
 use Rattle.base.specs.Choice.{pick, unless}
-use Rattle.lock.specs.Passwords.{longest, stored, same, holding, noPassword, flagged}
+use Rattle.lock.specs.Passwords.{longestPassword, stored, same, holding, noPassword, flagged}
 use Rattle.lock.specs.declared.Answer.the-variants.{Granted, Erased, Failed}
 use Rattle.lock.specs.declared.Operation.{Operation}
 use Rattle.lock.specs.declared.Operation.the-variants.{Unlock, Set, Clear, Lock as ToLock, SetAndLock, ForcedErase, Unknown}
@@ -47,7 +47,7 @@ unfoldable pub settable : Lock → List ℕ → Bool
 settable lock payload =
     unless (longEnough payload) false
     (unless (leb 1 (length (newOf lock payload))) false
-    (unless (leb (length (newOf lock payload)) longest) false (same (oldOf lock payload) (stored lock))))
+    (unless (leb (length (newOf lock payload)) longestPassword) false (same (oldOf lock payload) (stored lock))))
 
 -- "Clear, lock and unlock need the stored non-empty password"
 unfoldable pub presented : Lock → List ℕ → Bool
@@ -58,7 +58,7 @@ presented lock payload =
 abbrev pub allowed : ℕ → Bool → Bool
 allowed byte locked = pick (eqb byte 0) locked (pick (eqb byte 8) locked (not locked))
 
--- 20: "lock request requestFailed", and the record is as it was
+-- 20: "lock request failed", and the record is as it was
 abbrev pub requestFailed : Lock → Requested
 requestFailed lock = record { lock = lock; answer = Failed }
 
@@ -67,7 +67,7 @@ abbrev pub grantedIf : Bool → Lock → Lock → Requested
 grantedIf test lock next = unless test (requestFailed lock) (record { lock = next; answer = Granted })
 
 -- "Forced erase fails if CSD bit 13 or 12 is set; else it fills memory, clears the map, drops the password, unlocks": the caller, who has
--- memory and map, is passwordLength `Erased`
+-- memory and map, is told `Erased`
 abbrev pub erasedIf : Bool → Lock → Requested
 erasedIf test lock = unless test (requestFailed lock) (record { lock = noPassword; answer = Erased })
 

@@ -4,11 +4,12 @@
 // Offers: `Lock`, `no_password`, `powered`; `Making`, `Made`, `make`; `Operation`, `Answer`,
 // `Requested`, `request`.
 use base::Refusal;
+use base::copy;
 ghost use mathlib.Core.Bool.{not};
 ghost use mathlib.Core.Path.{_≡_};
 ghost use Prim.Native.Nat.{_+_, _≤_};
 ghost use lib.ListN.{length, take, drop};
-ghost use Rattle.lock.specs.Passwords.{longest, stored, same, holding, noPassword, flagged, poweredOf, lockMade};
+ghost use Rattle.lock.specs.Passwords.{longestPassword, stored, same, holding, noPassword, flagged, poweredOf, lockMade};
 ghost use Rattle.lock.specs.Requests.{askedBy, longEnough, newOf, settable, presented, allowed, requestFailed, grantedIf, erasedIf, doneOf, requestOf};
 
 // The password is the first `length` bytes; a length of 0 means none.
@@ -66,18 +67,14 @@ pub fn no_password() -> Lock
 
 // A record of a password and a flag, with zeros behind the password.
 fn holding(bytes: &[u8], locked: bool) -> Lock
-    requires { ⌜ length (now bytes) ≤ longest ⌝ }
+    requires { ⌜ length (now bytes) ≤ longestPassword ⌝ }
     ensures { λ r. ⌜ r ≡ holding (now (bytes .entry)) locked ⌝ }
 {
     let mut password = [0; 16];
-    let mut i: usize = 0;
-    while i < bytes.len() {
-        password[i] = bytes[i];
-        i += 1;
-    }
+    copy(bytes, &mut password, 0);
     Lock {
         password,
-        length: i as u8,
+        length: bytes.len() as u8,
         locked,
     }
 }
@@ -85,7 +82,7 @@ fn holding(bytes: &[u8], locked: bool) -> Lock
 // How many bytes the stored password has.
 fn held(lock: Lock) -> usize
     ensures answer { λ r. ⌜ r ≡ length (stored lock) ⌝ }
-    ensures bound { λ r. ⌜ r ≤ longest ⌝ }
+    ensures bound { λ r. ⌜ r ≤ longestPassword ⌝ }
 {
     if 16 < lock.length {
         return 16;

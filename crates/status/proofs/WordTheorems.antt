@@ -1,5 +1,5 @@
 -- What a status tells whoever reads it.
---   word-state, word-locked, word-ready   bits 12 to 9 are the number of the state, bit 25 the lock flag, bit 8 is 0 in prg and dis alone
+--   word-state, word-locked, word-buffer-empty   bits 12 to 9 are the number of the state, bit 25 the lock flag, bit 8 is 0 in prg and dis alone
 --   word-shown        the error bits are those that are shown
 --   word-determines   so equal words come from the same shown bits, lock flag and state
 --   stray-hidden      errors that agree on the named bits give the same words
@@ -44,9 +44,9 @@ module _ (e : Errors) (locked : Bool) (on : Column) where
   unfolding wordOf
   word-locked = omega (arith, low-free e, lock-free e, flag-lt locked, flag-lt (bufferEmpty on), column-placed on .0)
 
-  pub word-ready : bitAt 8 (wordOf e locked on) ≡ flag (bufferEmpty on)
+  pub word-buffer-empty : bitAt 8 (wordOf e locked on) ≡ flag (bufferEmpty on)
   unfolding wordOf
-  word-ready = omega (arith, low-free e, flag-lt (bufferEmpty on))
+  word-buffer-empty = omega (arith, low-free e, flag-lt (bufferEmpty on))
 
 -- all error bits: those from 25 on, and those from 13 to 24
 abbrev high : ℕ

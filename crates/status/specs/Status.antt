@@ -35,7 +35,7 @@ abbrev pub flag : Bool → ℕ
 flag true = 1
 flag false = 0
 
--- "bit 8 is 0 in prg and dis, else 1"
+-- "bit 8 is 0 in prg and dis, else 1": BUFFER_EMPTY in 001
 abbrev pub bufferEmpty : Column → Bool
 bufferEmpty Idle = true
 bufferEmpty Ready = true

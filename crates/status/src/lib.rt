@@ -2,7 +2,7 @@
 // name, those that are pending, and the 32-bit word. No call has a `requires`: of any 32 bits only
 // the named error bits are ever shown.
 //
-// Offers: `ErrorBit`, `Fault`; `Errors`, `none`, `set`, `taken`, `pending`; `word`.
+// Offers: `ErrorBit`, `Fault`; `Errors`, `none`, `set`, `clear_command_bits`, `pending`; `word`.
 use states::Column;
 ghost use mathlib.Core.Path.{_≡_};
 ghost use Prim.Native.Nat.{_^_};
@@ -99,7 +99,7 @@ fn bit_of(is: bool) -> u32
     if is { 1 } else { 0 }
 }
 
-// Bit 8: ready for data.
+// Bit 8, BUFFER_EMPTY in source document 001.
 fn buffer_empty(on: Column) -> bool
     ensures { λ r. ⌜ r ≡ bufferEmpty on ⌝ }
 {

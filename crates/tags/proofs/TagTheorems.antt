@@ -1,6 +1,7 @@
 -- What tag commands do, whatever comes in.
 --   start-error-drops, end-error-drops   an error drops the tags
 --   made-none, made-start, made-end      tags that these commands make are ordered, of sectors in one erase group, and below the size
+--   error-leaves-none   and then nothing is tagged, not even a start: computed
 --   at-the-size, last-byte, kind-before-order, next-group, next-group-tagged, one-sector, new-end, wrong-new-end   computed
 -- Assumes nothing.
 use mathlib.Core.Path.{_≡_, refl, sym, subst}
@@ -14,12 +15,13 @@ use Rattle.base.specs.Choice.{unless}
 use Rattle.status.specs.ErrorBits.{errorBit}
 use Rattle.status.specs.declared.ErrorBit.{ErrorBit}
 use Rattle.status.specs.declared.Fault.the-variants.{Bit}
-use Rattle.tags.specs.Made.{width, MadeTags}
-use Rattle.tags.specs.Tagging.{tagsOf, noTags, placeIn, tagFailed, made, hasStart, firstOf, oneGroup, startTagged, endAt, endTagged}
+use Rattle.tags.specs.Made.{MadeTags}
+use Rattle.tags.specs.Tagging.{tagsOf, noTags, anyOf, placeIn, tagFailed, made, hasStart, firstOf, oneGroup, startTagged, endAt, endTagged}
+use Rattle.tags.specs.Tags.{width}
 use Rattle.tags.specs.declared.Kind.{Kind}
 use Rattle.tags.specs.declared.Kind.the-variants.{Sectors, Groups}
 use Rattle.tags.specs.declared.Range.{Range}
-use Rattle.tags.specs.declared.Range.the-variants.{Start, Full}
+use Rattle.tags.specs.declared.Range.the-variants.{Nothing, Start, Full}
 use Rattle.tags.specs.declared.Tagging.{Tagging}
 use Rattle.tags.specs.declared.Tags.{Tags}
 
@@ -71,6 +73,11 @@ start-error-drops kind address size = after-start Drops failed-drops kind addres
 pub end-error-drops : (tags : Tags) (kind : Kind) (address size : ℕ) → Drops (endTagged tags kind address size)
 end-error-drops tags kind address size =
     after-end Drops failed-drops kind address size tags (λ first last e h le one. made-drops (Full kind first last))
+
+-- an end at the size, where a start was tagged
+pub error-leaves-none : (endTagged (tagsOf (Start Sectors 3)) Sectors 8192 8192 .tags .range ≡ Nothing) × (anyOf noTags ≡ false)
+unfolding endTagged
+error-leaves-none = (refl, refl)
 
 -- ---- tags as they are made
 below-size : (kind : Kind) (address size : ℕ) → address < size → placeIn kind address * width kind < size

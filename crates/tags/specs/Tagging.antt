@@ -7,7 +7,7 @@ use Rattle.base.specs.Choice.{unless}
 use Rattle.status.specs.ErrorBits.{errorBit}
 use Rattle.status.specs.declared.ErrorBit.{ErrorBit}
 use Rattle.status.specs.declared.Fault.the-variants.{None, Bit}
-use Rattle.tags.specs.Tags.{counted}
+use Rattle.tags.specs.Tags.{width, counted}
 use Rattle.tags.specs.declared.Kind.{Kind}
 use Rattle.tags.specs.declared.Kind.the-variants.{Sectors, Groups}
 use Rattle.tags.specs.declared.Range.{Range}
@@ -32,10 +32,18 @@ anyIn (Full kind first last) = true
 abbrev pub anyOf : Tags → Bool
 anyOf tags = anyIn (tags .range)
 
--- "An address stands for the sector or group it lies in": "Sector 512, erase group 4,096"
+-- "CMD38 needs both": a start and an end
+abbrev pub isFull : Range → Bool
+isFull Nothing = false
+isFull (Start kind first) = false
+isFull (Full kind first last) = true
+
+abbrev pub isComplete : Tags → Bool
+isComplete tags = isFull (tags .range)
+
+-- "An address stands for the sector or group it lies in"
 abbrev pub placeIn : Kind → ℕ → ℕ
-placeIn Sectors address = address / 512
-placeIn Groups address = address / 4096
+placeIn kind address = address / width kind
 
 -- "An error in 32-38 drops tags"
 abbrev pub tagFailed : ErrorBit → Tagging

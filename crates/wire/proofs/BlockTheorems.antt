@@ -25,7 +25,7 @@ use Rattle.crc.specs.Flip.{flip}
 use Rattle.crc.proofs.Bits.{bits-below, bits-octets, bits-take, bits-drop, onward-bits, length-bits, length-octets, octets-below}
 use Rattle.crc.proofs.Flips.{flip-below, flip-found}
 use Rattle.crc.proofs.Steps.{low16, p16}
-use Rattle.wire.specs.Blocks.{longest, blockOf, blockWritten, payloadOf, crcIn, checkedOf}
+use Rattle.wire.specs.Blocks.{longestBlock, blockOf, blockWritten, payloadOf, crcIn, checkedOf}
 use Rattle.wire.specs.Flipped.{flipped}
 use Rattle.wire.specs.declared.Checked.{Checked}
 use Rattle.wire.specs.declared.Checked.the-variants.{Payload, Refused}
@@ -50,7 +50,7 @@ pub good : (b : List ℕ) (n : ℕ) → checkedOf b ≡ Payload n → Good b n
 unfolding checkedOf
 good b n e =
     let t0 = passed (leb 3 (length b)) (Refused (by 5)) _ (Payload n) (no-refusal (by 5) n) e in
-    let t1 = passed (leb (length b) (longest + 2)) (Refused (by 5)) _ (Payload n) (no-refusal (by 5) n) (t0 .1) in
+    let t1 = passed (leb (length b) (longestBlock + 2)) (Refused (by 5)) _ (Payload n) (no-refusal (by 5) n) (t0 .1) in
     let t2 = passed (eqb (crcIn b) (crc16 (payloadOf b))) (Refused (by 17)) _ (Payload n) (no-refusal (by 17) n) (t1 .1) in
     let last : _≡_ {A = Checked} (Payload (length b - 2)) (Payload n) = t2 .1 in
     record {
@@ -65,7 +65,7 @@ pub long : (p : List ℕ) → length (blockOf p) ≡ length p + 2
 unfolding blockOf
 long p = length-append p (crc16 p / 256 ∷ crc16 p % 256 ∷ [])
 
-pub check-after-write : (p : List ℕ) → 1 ≤ length p → length p ≤ longest → checkedOf (blockOf p) ≡ Payload (length p)
+pub check-after-write : (p : List ℕ) → 1 ≤ length p → length p ≤ longestBlock → checkedOf (blockOf p) ≡ Payload (length p)
 unfolding blockOf
 check-after-write p lo hi =
     let v : ℕ = crc16 p in
@@ -81,11 +81,11 @@ check-after-write p lo hi =
     ∙ simp (e2, e1, hi8, lo8, take-append-seam p vs, w, eq-eqb v v refl)
 
 -- the same of what a call leaves at the front of any output that is long enough
-pub check-back : (p out : List ℕ) → 1 ≤ length p → length p ≤ longest → length p + 2 ≤ length out
+pub check-back : (p out : List ℕ) → 1 ≤ length p → length p ≤ longestBlock → length p + 2 ≤ length out
     → checkedOf (take (length p + 2) (laid (blockWritten p out) (blockOf p) out)) ≡ Payload (length p)
 unfolding blockWritten
 check-back p out lo hi ho =
-    simp (le-leb 1 (length p) lo, le-leb (length p) longest hi)
+    simp (le-leb 1 (length p) lo, le-leb (length p) longestBlock hi)
     (ap checkedOf (front (blockOf p) out (length p + 2) (long p) ho) ∙ check-after-write p lo hi)
 
 -- ---- any block that checks is the one that the writer gives

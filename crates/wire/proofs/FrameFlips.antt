@@ -81,7 +81,7 @@ module _ (w : List ℕ) (i a : ℕ) (s : Sent w i a) (b : Below 2 w) (n : length
       (subst (λ (P : Type 0). P) (crc-of w) (s .crc))
       (subst (λ (v : List ℕ). spelt (drop 40 v) ≡ remainder 7 generator7 (take 40 v)) (first-47 h) (subst (λ (P : Type 0). P) (crc-of (flip k w)) e))
 
-  flip-sent : checked (fieldsOf (flip k w)) ≡ Refused (by (pick (framingBit k) 2 3))
+  flip-sent : checked (fieldsOf (flip k w)) ≡ Refused (pick (framingBit k) (by 2) (by 3))
   flip-sent =
       cases (eqb k 0)
       (λ (e0 : eqb k 0 ≡ true). simp e0 (bad-start (flip k w) (turned 0 0 (sym (eqb-true k 0 e0)) (s .start))))
@@ -98,7 +98,7 @@ module _ (w : List ℕ) (i a : ℕ) (s : Sent w i a) (b : Below 2 w) (n : length
       let d = eqb-false k 47 n47 in
       simp (n0, n1, n47) (bad-crc (flip k w) start transmission end (wrong (omega arith))))))
 
-pub flip-refused : (f : List ℕ) (i a : ℕ) → frameOf f ≡ Command i a → (k : ℕ) → k < 48 → frameOf (flipped k f) ≡ Refused (by (pick (framingBit k) 2 3))
+pub flip-refused : (f : List ℕ) (i a : ℕ) → frameOf f ≡ Command i a → (k : ℕ) → k < 48 → frameOf (flipped k f) ≡ Refused (pick (framingBit k) (by 2) (by 3))
 unfolding frameOf framingOf
 flip-refused f i a e k hk =
     let r = read f i a e in
