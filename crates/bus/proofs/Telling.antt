@@ -19,7 +19,8 @@ use lib.ListN.{length, take, drop, getD, set, replicate}
 use lib.Seq.{take-suc, length-take-le}
 use Rattle.base.proofs.Cases.{cases}
 use Rattle.command.specs.Sending.{sentBytes}
-use Rattle.command.specs.Command.{commandOf}
+use Rattle.command.proofs.Verdict.{any-wins}
+use Rattle.command.specs.Command.{metBy, commandOf}
 use Rattle.command.specs.declared.Commanded.{Commanded}
 use Rattle.crc.specs.Bits.{octets, Below}
 use Rattle.shared_line.proofs.Together.{together-is-and}
@@ -29,9 +30,8 @@ use Rattle.card_record.specs.Record.{withLink}
 use Rattle.card_record.specs.declared.Card.{Card}
 use Rattle.bus.proofs.Cids.{cid-line}
 use Rattle.bus.proofs.Lists.{changed, changed-next, change-turn, first-all, getD-in}
-use Rattle.bus.proofs.Sending.{any-wins}
 use Rattle.bus.proofs.Winners.{holders}
-use Rattle.bus.specs.Bus.{countOf, cardsOf, withCards, winsLine, metWith, commandAt, cardAfter, frameFrom, longestOf, frameSender, cidLine, andLine, lineOf, shownOf, padded}
+use Rattle.bus.specs.Bus.{countOf, cardsOf, withCards, winsLine, commandAt, cardAfter, frameFrom, longestOf, frameSender, cidLine, andLine, lineOf, shownOf, padded}
 use Rattle.bus.specs.Contest.{lowFrom, lowFor, holdsLow, Held, HeldAll}
 use Rattle.bus.specs.Hearing.{quiet, heardOf, heardFrom, turnOf, shownFrom, toldOf}
 use Rattle.bus.specs.declared.Bus.{Bus}
@@ -77,20 +77,19 @@ heard-all heard (frame ∷ frames) = let r = heard-all (heardOf heard frame) fra
 -- ---- who wins
 pub turn-right : (bus : Bus) (index argument : ℕ) (low : Low) (card : Card) → low ≡ lowFor bus index → HeldAll bus index
     → List·Memᴰ card (cardsOf bus)
-    → commandOf (card .link) (metWith (holdsLow low card) card) index argument ≡ commandAt (cardsOf bus) index argument card
+    → commandOf (card .link) (metBy card (holdsLow low card)) index argument ≡ commandAt (cardsOf bus) index argument card
 unfolding commandAt lowFor
 turn-right bus index argument low card e held m =
     cases (eqb index 2)
     (λ (t : eqb index 2 ≡ true).
     let all = first-all Held (countOf bus) (bus .cards) (held (eqb-true index 2 t)) in
     let found : low ≡ lowFrom noLow (cardsOf bus) = simp t at e in
-    ap (λ (w : Bool). commandOf (card .link) (metWith w card) index argument)
+    ap (λ (w : Bool). commandOf (card .link) (metBy card w) index argument)
     (ap (λ (l : Low). holdsLow l card) found ∙ holders (cardsOf bus) all card m))
     (λ (t : eqb index 2 ≡ false).
-    any-wins (card .link) (card .registers .ocr) (card .registers .groups) (card .lock .locked) (holdsLow low card)
-    (winsLine (cardsOf bus) card) index argument t)
+    any-wins card (holdsLow low card) (winsLine (cardsOf bus) card) index argument t)
 
--- one turn: the card after it, and what the line then holdsLow
+-- one turn: the card after it, and what the line then holds
 module _ (bus : Bus) (index argument : ℕ) where
   abbrev pub after : Card → Card
   after = cardAfter (cardsOf bus) index argument

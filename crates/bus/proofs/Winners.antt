@@ -1,5 +1,5 @@
 -- The smallest CID that code finds, and who wins the line bit by bit.
---   holders      a card wins the line in CMD2 exactly if it is Ready and holdsLow the CID that code finds
+--   holders      a card wins the line in CMD2 exactly if it is Ready and holds the CID that code finds
 --   low-turn     one turn of the search
 --   low-least    what is found is no larger than a Ready card's CID
 --   low-from     what is found is a Ready card's CID, or what was there before
@@ -115,7 +115,7 @@ low-least low (x ∷ cards) card (List·Memᴰ·head e) r =
     (o .0, subst (λ (z : Card). cidNumber (lowFrom (betterOf low x) cards .cid) ≤ cidNumber (cidOf z)) (sym e) (le-trans (o .1) (b .1)))
 low-least low (x ∷ cards) card (List·Memᴰ·tail m) r = low-least (betterOf low x) cards card m r
 
--- a Ready card of these holdsLow what was found
+-- a Ready card of these holds what was found
 abbrev Owned : Low → List Card → Type 0
 Owned low cards = (card : Card) × List·Memᴰ card cards × (isReady card ≡ true) × (low .cid ≡ cidOf card)
 

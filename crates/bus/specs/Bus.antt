@@ -9,9 +9,8 @@ use Rattle.base.specs.Choice.{pick, unless}
 use Rattle.base.specs.Refusals.{by}
 use Rattle.base.specs.declared.Refusal.{Refusal}
 use Rattle.command.specs.Sending.{sentBytes}
-use Rattle.command.specs.Command.{damagedLink, commandOf}
+use Rattle.command.specs.Command.{metBy, damagedLink, commandOf}
 use Rattle.command.specs.declared.Commanded.{Commanded}
-use Rattle.command.specs.declared.Met.{Met}
 use Rattle.crc.specs.Bits.{bits, octets}
 use Rattle.shared_line.specs.Line.{Sender, contested, wins, together}
 use Rattle.moves.specs.Indices.{among}
@@ -79,12 +78,9 @@ cidBits = 128
 abbrev pub winsLine : List Card → Card → Bool
 winsLine cards card = wins cidBits (map cidSender cards) (cidSender card)
 
-abbrev pub metWith : Bool → Card → Met
-metWith wins card = record { ocr = card .registers .ocr; groups = card .registers .groups; locked = card .lock .locked; wins = wins }
-
 -- what a command does at one card of these
 unfoldable pub commandAt : List Card → ℕ → ℕ → Card → Commanded
-commandAt cards index argument card = commandOf (card .link) (metWith (winsLine cards card) card) index argument
+commandAt cards index argument card = commandOf (card .link) (metBy card (winsLine cards card)) index argument
 
 unfoldable pub cardAfter : List Card → ℕ → ℕ → Card → Card
 cardAfter cards index argument card = withLink card (commandAt cards index argument card .link)

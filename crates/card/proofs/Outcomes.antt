@@ -15,9 +15,9 @@ use borrow.Author.Tests.{leb-true, ltb-true, ltb-false, eqb-true, not-true}
 use lib.Dec.{eqb, leb, ltb}
 use lib.ListN.{length, take}
 use Rattle.base.proofs.Cases.{guarded, clash}
-use Rattle.base.specs.Refusals.{by}
+use Rattle.base.specs.Refusals.{refusalOf, by}
 use Rattle.base.specs.declared.Refusal.{Refusal}
-use Rattle.command.specs.Command.{damagedLink, commandOf}
+use Rattle.command.specs.Command.{metBy, damagedLink, commandOf}
 use Rattle.crc.specs.Bits.{bits}
 use Rattle.crc.specs.Crc.{crc16}
 use Rattle.lock.specs.Requests.{requestOf}
@@ -44,7 +44,7 @@ use Rattle.wire.specs.declared.Framing.{Framing}
 use Rattle.wire.specs.declared.Framing.the-variants.{Framed}
 use Rattle.card.specs.BlockIn.{beside, awaitedLength, afterStored, blockRefused, blockGood, writeJudged, lockJudged, requestJudged, carriedOut, awaitedJudged, unread, stateJudged, blockJudged}
 use Rattle.card.specs.BlockOut.{unsent, outRefused, outGood, afterSent, partJudged, protectionJudged, outgoingJudged, stateSends, outJudged}
-use Rattle.card.specs.Frame.{metAlone, frameRefused, commanded, framed, frameJudged, sparedTold}
+use Rattle.card.specs.Frame.{frameRefused, commanded, framed, frameJudged, sparedTold}
 use Rattle.card.specs.declared.BlockJudged.{BlockJudged}
 use Rattle.card.specs.declared.FrameJudged.{FrameJudged}
 use Rattle.card.specs.declared.OutJudged.{OutJudged}
@@ -90,7 +90,7 @@ pub record Storable (card : Card) (block : List ℕ) (memory : ℕ) (map : List 
 
 -- a block in: 12, 15; an awaited block refused; a sector stored; a lock request granted, a forced erase or another
 pub data InOutcome (card : Card) (block : List ℕ) (memory : ℕ) (map : List ℕ) : BlockJudged → Type 0 where
-  unreads : (n : ℕ) → among n (12 ∷ 15 ∷ []) ≡ true → InOutcome card block memory map (unread card (by n))
+  unreads : (n : ℕ) → among n (12 ∷ 15 ∷ []) ≡ true → InOutcome card block memory map (unread card (refusalOf n))
   refuses : (incoming : Incoming) (refusal : Refusal) (fault : Fault) → card .link .state ≡ Rcv incoming → Refuses card incoming refusal fault
       → InOutcome card block memory map (blockRefused card incoming refusal fault)
   stores : (incoming : Incoming) (at : ℕ) → WritesAt incoming at → card .link .state ≡ Rcv incoming → Storable card block memory map (at / 512)
@@ -102,18 +102,18 @@ pub data InOutcome (card : Card) (block : List ℕ) (memory : ℕ) (map : List �
 
 -- a block out: 12, 15, 6; 18 with bit 31 and 21 with bit 30; a block sent, with the address behind it in the memory
 pub data OutOutcome (card : Card) : OutJudged → Type 0 where
-  unsends : (n : ℕ) → among n (12 ∷ 15 ∷ 6 ∷ []) ≡ true → OutOutcome card (unsent card (by n))
+  unsends : (n : ℕ) → among n (12 ∷ 15 ∷ 6 ∷ []) ≡ true → OutOutcome card (unsent card (refusalOf n))
   past : (outgoing : Outgoing) → card .link .state ≡ Data outgoing → OutOutcome card (outRefused card (by 18) (errorBit 31))
   across : (outgoing : Outgoing) → card .link .state ≡ Data outgoing → OutOutcome card (outRefused card (by 21) (errorBit 30))
   sends : (outgoing : Outgoing) (next n : ℕ) (sending : Sending) → card .link .state ≡ Data outgoing → next ≤ sizeOf (card .registers .groups)
       → OutOutcome card (outGood card (afterSent outgoing next) n sending)
 
 -- a frame: 12, 1, 2; 3, with bit 23; a command that was read
-pub data FrameOutcome (card : Card) (frame : List ℕ) (memory : ℕ) (map : List ℕ) : FrameJudged → Type 0 where
-  unheard : (n : ℕ) → among n (12 ∷ 1 ∷ 2 ∷ []) ≡ true → FrameOutcome card frame memory map (frameRefused card (by n))
-  damaged : FrameOutcome card frame memory map (frameRefused (withLink card (damagedLink (card .link))) (by 3))
+pub data FrameOutcome (card : Card) (wins : Bool) (frame : List ℕ) (memory : ℕ) (map : List ℕ) : FrameJudged → Type 0 where
+  unheard : (n : ℕ) → among n (12 ∷ 1 ∷ 2 ∷ []) ≡ true → FrameOutcome card wins frame memory map (frameRefused card (refusalOf n))
+  damaged : FrameOutcome card wins frame memory map (frameRefused (withLink card (damagedLink (card .link))) (by 3))
   commands : (index argument : ℕ) → frameOf frame ≡ Command index argument → lentRight memory map (card .registers .groups) ≡ true
-      → FrameOutcome card frame memory map (commanded card (commandOf (card .link) (metAlone card) index argument))
+      → FrameOutcome card wins frame memory map (commanded card (commandOf (card .link) (metBy card wins) index argument))
 
 -- ---- a block in
 module _ (card : Card) (block : List ℕ) (memory : ℕ) (map : List ℕ) where
@@ -210,14 +210,14 @@ module _ (card : Card) where
       guarded Out (lentRight memory map (card .registers .groups)) (λ t. unsends 12 refl) (λ t. out-state (card .link .state) room refl)
 
 -- ---- a frame
-module _ (card : Card) (frame : List ℕ) (memory : ℕ) (map : List ℕ) where
+module _ (card : Card) (wins : Bool) (frame : List ℕ) (memory : ℕ) (map : List ℕ) where
   abbrev Heard : FrameJudged → Type 0
-  Heard = FrameOutcome card frame memory map
+  Heard = FrameOutcome card wins frame memory map
 
   module _ (lent : lentRight memory map (card .registers .groups) ≡ true) where
     -- a framing, where it is the frame's
     abbrev Reads : Framing → Type 0
-    Reads framing = frameOf frame ≡ checked framing → Heard (framed card framing)
+    Reads framing = frameOf frame ≡ checked framing → Heard (framed card wins framing)
 
     by-crc : (index argument : ℕ) (right : Bool) → Reads (Framed index argument right)
     by-crc index argument true e = commands index argument e lent
@@ -237,7 +237,7 @@ module _ (card : Card) (frame : List ℕ) (memory : ℕ) (map : List ℕ) where
     unfolding framingOf
     by-length = guarded Reads (eqb (length frame) 6) (λ t e. unheard 1 refl) (λ t. by-bits (bits frame))
 
-  pub frame-outcome : FrameOutcome card frame memory map (frameJudged card frame memory map)
+  pub frame-outcome : FrameOutcome card wins frame memory map (frameJudged card wins frame memory map)
   unfolding frameJudged frameOf
   frame-outcome = guarded Heard (lentRight memory map (card .registers .groups)) (λ t. unheard 12 refl) (λ t. by-length t refl)
 

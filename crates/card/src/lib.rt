@@ -74,9 +74,10 @@ pub struct FrameJudged {
     pub change: Change,
 }
 
-// Everything that can happen to a made card.
+// Everything that can happen to a made card. A frame comes with whether the card wins the line in CMD2: one
+// that is alone on it does.
 pub enum Call {
-    Frame,
+    Frame { wins: bool },
     BlockIn,
     BlockOut,
     WorkDone,
@@ -98,7 +99,7 @@ pub fn step(
     ensures output { λ _. ⌜ now (out .exit) ≡ outputOf card call (now (memory .entry)) (now (map .entry)) (now (out .entry)) ⌝ }
 {
     match call {
-        Call::Frame => frame(card, input, memory, map),
+        Call::Frame { wins } => frame(card, wins, input, memory, map),
         Call::BlockIn => block_in(card, input, memory, map),
         Call::BlockOut => block_out(card, memory, map, out),
         Call::WorkDone => done(card_record::work_done(card)),

@@ -1,5 +1,6 @@
 -- Document 01, "How a card takes a frame": the six checks in order, from check 1 on, and the legal moves.
 -- Assumes nothing.
+use mathlib.Core.Bool.{Bool}
 use Prim.Native.Nat.{ℕ}
 use lib.Dec.{eqb}
 use Rattle.base.specs.Choice.{pick, unless}
@@ -11,6 +12,7 @@ use Rattle.moves.specs.declared.Move.the-variants.{Ignored, Silent, Illegal, To
 use Rattle.moves.specs.declared.Row.{Row}
 use Rattle.card_record.specs.Power.{freshLink}
 use Rattle.card_record.specs.Record.{withErrors, withTags}
+use Rattle.card_record.specs.declared.Card.{Card}
 use Rattle.card_record.specs.declared.Link.{Link}
 use Rattle.states.specs.States.{columnOf, columnNumber}
 use Rattle.states.specs.declared.Column.{Column}
@@ -26,6 +28,11 @@ use Rattle.command.specs.Obey.{dropsTags, judgedOf, obeyed, changeOf}
 use Rattle.command.specs.declared.Change.the-variants.{Nothing as Unchanged}
 use Rattle.command.specs.declared.Commanded.{Commanded}
 use Rattle.command.specs.declared.Met.{Met}
+
+-- what a command meets at a card, beside its link: in CMD2 the card "wins", or is "a loser". "In its own call a card is alone on the line, so
+-- CMD2 wins"; on a shared line it does if its CID is heard to the last bit
+abbrev pub metBy : Card → Bool → Met
+metBy card wins = record { ocr = card .registers .ocr; groups = card .registers .groups; locked = card .lock .locked; wins = wins }
 
 -- a command as it meets a card
 abbrev pub receivedOf : Link → Met → ℕ → ℕ → Received

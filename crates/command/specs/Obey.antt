@@ -5,6 +5,7 @@ use mathlib.Core.List.{[], _∷_}
 use Prim.Native.Nat.{ℕ, _/_, _%_}
 use lib.Dec.{eqb}
 use Rattle.base.specs.Choice.{pick, unless}
+use Rattle.base.specs.Sizes.{protectionGroupSize}
 use Rattle.moves.specs.Classes.{classOf, classNumber}
 use Rattle.moves.specs.Indices.{among}
 use Rattle.card_record.specs.Record.{sizeOf, lengthRead}
@@ -17,13 +18,10 @@ use Rattle.states.specs.declared.State.{State}
 use Rattle.states.specs.declared.State.the-variants.{Idle, Ready, Ident, Stby, Tran, Data, Rcv, Prg, Dis, Ina}
 use Rattle.status.specs.ErrorBits.{errorBit}
 use Rattle.status.specs.declared.Fault.the-variants.{None}
-use Rattle.tags.specs.Tagging.{noTags, tagFailed, startTagged, endTagged}
-use Rattle.tags.specs.Tags.{eraseOf}
+use Rattle.tags.specs.Tagging.{noTags, isComplete, tagFailed, startTagged, endTagged}
 use Rattle.tags.specs.declared.Kind.the-variants.{Sectors, Groups}
 use Rattle.tags.specs.declared.Tagging.{Tagging}
 use Rattle.tags.specs.declared.Tags.{Tags}
-use Rattle.tags.specs.declared.ToErase.{ToErase}
-use Rattle.tags.specs.declared.ToErase.the-variants.{Sectors as FromTo, Error}
 use Rattle.command.specs.Arguments.{argumentFault}
 use Rattle.command.specs.declared.Change.{Change}
 use Rattle.command.specs.declared.Change.the-variants.{Nothing, Protect, Erase}
@@ -41,12 +39,8 @@ abbrev pub leaving : Tags → Tagging
 leaving tags = record { tags = tags; error = None }
 
 -- "CMD38 needs both (28) .. drops tags"
-abbrev pub erasing : ToErase → Tagging
-erasing (FromTo first last) = leaving noTags
-erasing (Error bit) = tagFailed bit
-
 abbrev pub eraseTagging : Tags → Tagging
-eraseTagging tags = erasing (eraseOf tags)
+eraseTagging tags = unless (isComplete tags) (tagFailed (errorBit 28)) (leaving noTags)
 
 -- the tags that a command leaves, with the error in its argument: "CMD32, 35 tag a start; 33, 36 an end", CMD38 erases, CMD13 keeps tags,
 -- and any other command drops them, with an error or without
@@ -86,7 +80,7 @@ awaitedBy index argument state =
     (pick (among index (18 ∷ [])) (Data (ManyOut argument))
     (pick (among index (24 ∷ [])) (Rcv (OneIn argument))
     (pick (among index (25 ∷ [])) (Rcv (ManyIn argument))
-    (pick (among index (30 ∷ [])) (Data (Protection (argument / 8192)))
+    (pick (among index (30 ∷ [])) (Data (Protection (argument / protectionGroupSize)))
     (pick (among index (42 ∷ [])) (Rcv LockRequest) state)))))
 
 -- 3: "address taken"
@@ -111,6 +105,6 @@ obeyed link index argument column tags =
 -- "CMD28, 29: set, clear the addressed group"; "CMD38 .. fills every tagged sector outside protection"
 unfoldable pub changeOf : ℕ → ℕ → Change
 changeOf index argument =
-    pick (among index (28 ∷ [])) (Protect (argument / 8192) true)
-    (pick (among index (29 ∷ [])) (Protect (argument / 8192) false)
+    pick (among index (28 ∷ [])) (Protect (argument / protectionGroupSize) true)
+    (pick (among index (29 ∷ [])) (Protect (argument / protectionGroupSize) false)
     (pick (among index (38 ∷ [])) Erase Nothing))

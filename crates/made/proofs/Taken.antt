@@ -25,7 +25,7 @@ use Rattle.moves.specs.declared.Move.{Move}
 use Rattle.moves.specs.declared.Move.the-variants.{Ignored, Silent, Illegal, To}
 use Rattle.moves.specs.declared.Row.{Row}
 use Rattle.moves.specs.declared.Row.the-variants.{SetOrTag}
-use Rattle.card_record.specs.Record.{sizeOf, lengthRead, longest}
+use Rattle.card_record.specs.Record.{sizeOf, lengthRead}
 use Rattle.card_record.specs.declared.Link.{Link}
 use Rattle.states.specs.States.{columnOf}
 use Rattle.states.specs.declared.Column.{Column}
@@ -42,6 +42,7 @@ use Rattle.tags.specs.Made.{MadeTags}
 use Rattle.tags.specs.Tagging.{noTags, anyOf}
 use Rattle.tags.specs.declared.Tagging.{Tagging}
 use Rattle.tags.specs.declared.Tags.{Tags}
+use Rattle.wire.specs.Blocks.{longestBlock}
 use Rattle.made.proofs.Faults.{passes, unlocked}
 use Rattle.made.proofs.Links.{errors-made, at-waits, left-pending}
 use Rattle.made.proofs.Pending.{none-pending, set-pending}
@@ -201,7 +202,7 @@ module _ (c : Meeting) where
       (λ l. drops-kept index row column (tagging c index .tags) (tagging c index .error) r1 drops (λ e. right column h l)))
 
   -- ---- links after a command
-  pub anew : (length : ℕ) (state : State) → (1 ≤ length) × (length ≤ longest) → Waits (c .met .groups) length (c .met .locked) state
+  pub anew : (length : ℕ) (state : State) → (1 ≤ length) × (length ≤ longestBlock) → Waits (c .met .groups) length (c .met .locked) state
       → Right c (record { state = state; address = c .link .address; length = length; errors = c .link .errors; tags = noTags })
   anew length state block waits =
       record { address = c .made .address; block = block; tags = tt; tagged = λ e. never e; work = waits; errors = c .made .errors }
@@ -222,4 +223,4 @@ module _ (c : Meeting) where
 
   -- a block length is read as it stands
   pub read-as : lengthRead (c .link .length) ≡ c .link .length
-  read-as = simp (le-leb 1 (c .link .length) (c .made .block .0), le-leb (c .link .length) longest (c .made .block .1))
+  read-as = simp (le-leb 1 (c .link .length) (c .made .block .0), le-leb (c .link .length) longestBlock (c .made .block .1))

@@ -18,7 +18,7 @@ use Rattle.card_record.specs.Record.{lengthRead}
 use Rattle.card_record.specs.declared.Card.{Card}
 use Rattle.states.specs.declared.Incoming.{Incoming}
 use Rattle.states.specs.declared.Incoming.the-variants.{One, Many, LockRequest}
-use Rattle.wire.specs.Blocks.{longest, crcIn, payloadOf, checkedOf}
+use Rattle.wire.specs.Blocks.{longestBlock, crcIn, payloadOf, checkedOf}
 use Rattle.wire.specs.declared.Checked.{Checked}
 use Rattle.wire.specs.declared.Checked.the-variants.{Payload, Refused}
 use Rattle.card.specs.BlockIn.{carriedOut, awaitedLength, awaitedJudged}
@@ -33,7 +33,7 @@ crc-right : (b : List ℕ) {n : ℕ} → checkedOf b ≡ Payload n → eqb (crcI
 unfolding checkedOf
 crc-right b {n} e =
     let t0 = passed (leb 3 (length b)) (Refused (by 5)) _ (Payload n) (no-refusal (by 5) n) e in
-    let t1 = passed (leb (length b) (longest + 2)) (Refused (by 5)) _ (Payload n) (no-refusal (by 5) n) (t0 .1) in
+    let t1 = passed (leb (length b) (longestBlock + 2)) (Refused (by 5)) _ (Payload n) (no-refusal (by 5) n) (t0 .1) in
     passed (eqb (crcIn b) (crc16 (payloadOf b))) (Refused (by 17)) _ (Payload n) (no-refusal (by 17) n) (t1 .1) .0
 
 -- one of a block's length that does not check has a wrong one: it is refused by 17 alone
