@@ -12,9 +12,8 @@ use Prim.Native.Nat.{ℕ}
 use lib.Dec.{eqb}
 use Rattle.base.proofs.Cases.{cases, clash}
 use Rattle.base.specs.Choice.{pick, unless}
-use Rattle.card.specs.Frame.{metAlone}
 use Rattle.command.specs.Answers.{answered, silent}
-use Rattle.command.specs.Command.{receivedOf, takenOf, concluded, resetTold, commandOf}
+use Rattle.command.specs.Command.{metBy, receivedOf, takenOf, concluded, resetTold, commandOf}
 use Rattle.command.specs.Obey.{passesLock, taggingOf, judgedOf}
 use Rattle.command.specs.declared.Change.the-variants.{Nothing}
 use Rattle.command.specs.declared.Commanded.{Commanded}
@@ -128,13 +127,13 @@ pub only-passes-lock : (link : Link) (met : Met) (index argument : ℕ) (column 
 only-passes-lock link met index argument column taken stopped =
     faulted link met index argument column (errorBit 24) taken (lock-fault link met index argument stopped)
 
-module _ (card : Card) (frame memory map out : List ℕ) (index argument : ℕ) (reads : Reads card frame memory map index argument)
-    (column : Column) (taken : Taken (card .link) (metAlone card) index argument column) where
-  pub faulted-frame : (bit : ErrorBit) → fault (card .link) (metAlone card) index argument ≡ Bit bit
-      → Unlent card frame memory map out (commandOf (card .link) (metAlone card) index argument)
+module _ (card : Card) (wins : Bool) (frame memory map out : List ℕ) (index argument : ℕ) (reads : Reads card frame memory map index argument)
+    (column : Column) (taken : Taken (card .link) (metBy card wins) index argument column) where
+  pub faulted-frame : (bit : ErrorBit) → fault (card .link) (metBy card wins) index argument ≡ Bit bit
+      → Unlent card wins frame memory map out (commandOf (card .link) (metBy card wins) index argument)
   faulted-frame bit faults =
-      unlent card frame memory map out index argument reads (faulted (card .link) (metAlone card) index argument column bit taken faults .change)
+      unlent card wins frame memory map out index argument reads (faulted (card .link) (metBy card wins) index argument column bit taken faults .change)
 
   pub locked-frame : passesLock (card .lock .locked) index ≡ false
-      → Unlent card frame memory map out (commandOf (card .link) (metAlone card) index argument)
-  locked-frame stopped = faulted-frame (errorBit 24) (lock-fault (card .link) (metAlone card) index argument stopped)
+      → Unlent card wins frame memory map out (commandOf (card .link) (metBy card wins) index argument)
+  locked-frame stopped = faulted-frame (errorBit 24) (lock-fault (card .link) (metBy card wins) index argument stopped)

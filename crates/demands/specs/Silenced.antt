@@ -94,8 +94,8 @@ pub record Reads (card : Card) (frame memory map : List ℕ) (index argument : �
   pub command : frameOf frame ≡ Command index argument
 
 -- a frame whose command leaves this, and that changes no lent byte
-pub record Unlent (card : Card) (frame memory map out : List ℕ) (given : Commanded) : Type 0 where
-  pub step : stepOf card Frame frame (length memory) map (length out) ≡ replied (withLink card (given .link)) Done (given .sent)
-  pub memory-kept : memoryOf card Frame frame memory map ≡ memory
-  pub map-kept : mapOf card Frame frame (length memory) map ≡ map
-  pub output-kept : outputOf card Frame memory map out ≡ out
+pub record Unlent (card : Card) (wins : Bool) (frame memory map out : List ℕ) (given : Commanded) : Type 0 where
+  pub step : stepOf card (Frame wins) frame (length memory) map (length out) ≡ replied (withLink card (given .link)) Done (given .sent)
+  pub memory-kept : memoryOf card (Frame wins) frame memory map ≡ memory
+  pub map-kept : mapOf card (Frame wins) frame (length memory) map ≡ map
+  pub output-kept : outputOf card (Frame wins) memory map out ≡ out

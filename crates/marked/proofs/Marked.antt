@@ -8,12 +8,13 @@
 --   mute           not of a program that prints nothing
 -- Assumes nothing.
 use mathlib.Core.Path.{_≡_, refl, sym, ap, _∙_}
+use mathlib.Core.Bool.{true}
 use mathlib.Core.List.{List, [], _∷_}
 use Prim.Native.Nat.{ℕ, _+_, _*_, _/_, _%_}
 use native.Mathlib.Omega.{arith}
 use lib.ListN.{length, getD}
 use Rattle.base.proofs.Cases.{clash}
-use Rattle.base.specs.Refusals.{by}
+use Rattle.base.specs.Refusals.{refusalOf}
 use Rattle.card.specs.Frame.{frameJudged, frameStepped as cardFrameOf}
 use Rattle.command.specs.Sending.{sentBytes}
 use Rattle.command.specs.Answers.{responseOf, answered}
@@ -42,13 +43,13 @@ use Rattle.marked.specs.Marked.{cardIn, all, marked}
 
 -- what our card puts on the line for a frame, lent a memory of 8,192 bytes and its map
 abbrev pub ours : Card → List ℕ → List ℕ
-ours card frame = sentBytes (card .registers) (cardFrameOf card frame 8192 (0 ∷ []) .reply .sent)
+ours card frame = sentBytes (card .registers) (cardFrameOf card true frame 8192 (0 ∷ []) .reply .sent)
 
 pub marked-hold : all frameOf ours crc16 transcript marked
 unfolding cardIn holding freshLink cardFrameOf frameJudged entriesRight commandOf takenOf concluded judgedOf taggingOf argumentFault resetTold obeyed awaitedBy changeOf responseOf answered wordOf classOf moveOf rowOf transferRow sentBytes r1Frame sealed frameOf framingOf fieldsOf crc7Of crc16 checkSum remainder divide bits
 marked-hold = (refl, (refl, (refl, (refl, (refl, (refl, (refl, (refl, (eight-lines, tt)))))))))
 
-pub refusing : (reply : Card → List ℕ → List ℕ) (sum : List ℕ → ℕ) (play : List ℕ → List ℕ) (n : ℕ) → all (λ f. Refused (by n)) reply sum play marked → ⊥
+pub refusing : (reply : Card → List ℕ → List ℕ) (sum : List ℕ → ℕ) (play : List ℕ → List ℕ) (n : ℕ) → all (λ f. Refused (refusalOf n)) reply sum play marked → ⊥
 refusing reply sum play n h = let e = h .0 in clash cc
 
 -- the framing with every CRC7 taken for right

@@ -34,7 +34,7 @@ use Rattle.rounds.specs.MadeBus.{MadeBus}
 
 -- ---- lists of cards
 -- the cards of a bus after each is changed, however many places there are
-changed : (f : Card → Card) (n : ℕ) (l : List Card) → take n (map f (take n l) ++ drop (length (map f (take n l))) l) ≡ map f (take n l)
+pub changed : (f : Card → Card) (n : ℕ) (l : List Card) → take n (map f (take n l) ++ drop (length (map f (take n l))) l) ≡ map f (take n l)
 changed f zero l = refl
 changed f (suc n) [] = refl
 changed f (suc n) (c ∷ l) = ap (λ (t : List Card). f c ∷ t) (changed f n l)
