@@ -1,7 +1,7 @@
 -- A card's record as C holds it: twelve numbers, and the 16 bytes each of the CID, the CSD and the password. The record that any numbers and
 -- bytes stand for, and the numbers of a record. That nothing is lost between the two is the theorem of proofs/Crossing.antt.
 -- Assumes nothing.
-use mathlib.Core.Bool.{Bool}
+use mathlib.Core.Bool.{not}
 use mathlib.Core.List.{List, [], _∷_}
 use Prim.Native.Nat.{ℕ, _%_, _<_}
 use lib.Dec.{eqb}
@@ -14,7 +14,8 @@ use Rattle.states.specs.declared.Outgoing.{Outgoing}
 use Rattle.states.specs.declared.Outgoing.the-variants.{One, Many, Protection}
 use Rattle.states.specs.declared.State.{State}
 use Rattle.states.specs.declared.State.the-variants.{Idle, Ready, Ident, Stby, Tran, Data, Rcv, Prg, Dis, Ina}
-use Rattle.tags.specs.Tagging.{tagsOf}
+use Rattle.status.specs.Status.{flag}
+use Rattle.tags.specs.Tagging.{tagsOf, firstOf}
 use Rattle.tags.specs.declared.Kind.{Kind}
 use Rattle.tags.specs.declared.Kind.the-variants.{Sectors, Groups}
 use Rattle.tags.specs.declared.Range.{Range}
@@ -45,12 +46,13 @@ tagsBy number first last =
     (pick (eqb number 2) (Start Groups first)
     (pick (eqb number 3) (Full Sectors first last) (pick (eqb number 4) (Full Groups first last) Nothing))))
 
--- the record of twelve numbers, a CID, a CSD and a password: of a number that is wider than its field the low bits count
+-- the record of twelve numbers, a CID, a CSD and a password: of a number that is wider than its field the low bits count, and every number but 0
+-- is locked
 unfoldable pub cardOf : List ℕ → List ℕ → List ℕ → List ℕ → Card
 cardOf numbers cid csd password =
     record {
       registers = record { cid = cid; csd = csd; ocr = getD numbers 11 0; groups = getD numbers 10 0 % 65536 };
-      lock = record { password = password; length = getD numbers 9 0 % 256; locked = eqb (getD numbers 8 0) 1 };
+      lock = record { password = password; length = getD numbers 9 0 % 256; locked = not (eqb (getD numbers 8 0) 0) };
       link =
           record {
             state = stateOf (getD numbers 0 0) (getD numbers 1 0);
@@ -120,18 +122,10 @@ tagsNumber Nothing = 0
 tagsNumber (Start kind first) = startNumber kind
 tagsNumber (Full kind first last) = fullNumber kind
 
-abbrev pub firstOf : Range → ℕ
-firstOf Nothing = 0
-firstOf (Start kind first) = first
-firstOf (Full kind first last) = first
-
 abbrev pub lastOf : Range → ℕ
 lastOf Nothing = 0
 lastOf (Start kind first) = 0
 lastOf (Full kind first last) = last
-
-abbrev pub flag : Bool → ℕ
-flag is = pick is 1 0
 
 -- the twelve numbers of a record, in the order in which mmc.h names them
 unfoldable pub numbersOf : Card → List ℕ

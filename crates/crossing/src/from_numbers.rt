@@ -1,6 +1,7 @@
 // The record that numbers and bytes stand for. Any numbers stand for one, so that no call asks
-// anything of them: a number that is wider than its field counts by its low bits, and a state or
-// tags of no name read as Inactive and as none.
+// anything of them: a number that is wider than its field counts by its low bits, a state or tags of
+// no name read as Inactive and as none, and a flag is set by every number but 0, so that damage opens
+// no card.
 use card_record::Card;
 use card_record::Link;
 use card_record::Registers;
@@ -62,7 +63,7 @@ pub fn card_of(numbers: [u32; 12], cid: [u8; 16], csd: [u8; 16], password: [u8; 
         lock: Lock {
             password,
             length: (numbers[9] % 256) as u8,
-            locked: numbers[8] == 1,
+            locked: numbers[8] != 0,
         },
         link: Link {
             state: state_of(numbers[0], numbers[1]),

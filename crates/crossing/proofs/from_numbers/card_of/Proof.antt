@@ -1,9 +1,9 @@
--- `crossing::taken::card_of` meets its contract: each number read in its place.
+-- `crossing::from_numbers::card_of` meets its contract: each number read in its place.
 -- Assumes nothing.
 use borrow.Author.Needs.{needs}
 use Rattle.crossing.specs.Record.{cardOf}
-use Rattle.crossing.proofs.taken.card_of.Statement.{statement}
-use Rattle.crossing.proofs.taken.card_of.Tie as tie
+use Rattle.crossing.proofs.from_numbers.card_of.Statement.{statement}
+use Rattle.crossing.proofs.from_numbers.card_of.Tie as tie
 
 pub card-of-spec : {M : Type 1} → statement M
 unfolding cardOf

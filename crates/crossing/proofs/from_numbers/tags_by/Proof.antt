@@ -1,9 +1,9 @@
--- `crossing::taken::tags_by` meets its contract: each arm is told its number, and the last that it is none of the others'.
+-- `crossing::from_numbers::tags_by` meets its contract: each arm is told its number, and the last that it is none of the others'.
 -- Assumes nothing.
 use borrow.Author.Tests.{ne-eqb}
 use Rattle.crossing.specs.Record.{tagsBy}
-use Rattle.crossing.proofs.taken.tags_by.Statement.{statement}
-use Rattle.crossing.proofs.taken.tags_by.Tie as tie
+use Rattle.crossing.proofs.from_numbers.tags_by.Statement.{statement}
+use Rattle.crossing.proofs.from_numbers.tags_by.Tie as tie
 
 pub tags-by-spec : {M : Type 1} → statement M
 unfolding tagsBy

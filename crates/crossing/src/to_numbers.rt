@@ -6,7 +6,9 @@ use states::State;
 use tags::Kind;
 use tags::Range;
 ghost use mathlib.Core.Path.{_≡_};
-ghost use Rattle.crossing.specs.Record.{outgoingNumber, incomingNumber, stateNumber, outgoingAt, incomingAt, placeCarried, startNumber, fullNumber, tagsNumber, firstOf, lastOf, flag, cardOf, numbersOf};
+ghost use Rattle.crossing.specs.Record.{outgoingNumber, incomingNumber, stateNumber, outgoingAt, incomingAt, placeCarried, startNumber, fullNumber, tagsNumber, lastOf, cardOf, numbersOf};
+ghost use Rattle.status.specs.Status.{flag};
+ghost use Rattle.tags.specs.Tagging.{firstOf};
 
 fn outgoing_number(outgoing: Outgoing) -> u32
     ensures { λ r. ⌜ r ≡ outgoingNumber outgoing ⌝ }
@@ -66,7 +68,7 @@ fn incoming_at(incoming: Incoming) -> u32
 }
 
 // The place that a state carries, and 0 where it carries none.
-fn state_at(state: State) -> u32
+fn place_carried(state: State) -> u32
     ensures { λ r. ⌜ r ≡ placeCarried state ⌝ }
 {
     match state {
@@ -152,7 +154,7 @@ pub fn numbers_of(card: Card) -> [u32; 12]
     let range = tags.range;
     [
         state_number(state),
-        state_at(state),
+        place_carried(state),
         link.address as u32,
         link.length as u32,
         errors.bits,

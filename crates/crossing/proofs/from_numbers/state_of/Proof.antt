@@ -1,9 +1,9 @@
--- `crossing::taken::state_of` meets its contract: each arm is told its number, and the last that it is none of the others'.
+-- `crossing::from_numbers::state_of` meets its contract: each arm is told its number, and the last that it is none of the others'.
 -- Assumes nothing.
 use borrow.Author.Tests.{ne-eqb}
 use Rattle.crossing.specs.Record.{stateOf}
-use Rattle.crossing.proofs.taken.state_of.Statement.{statement}
-use Rattle.crossing.proofs.taken.state_of.Tie as tie
+use Rattle.crossing.proofs.from_numbers.state_of.Statement.{statement}
+use Rattle.crossing.proofs.from_numbers.state_of.Tie as tie
 
 pub state-of-spec : {M : Type 1} → statement M
 unfolding stateOf

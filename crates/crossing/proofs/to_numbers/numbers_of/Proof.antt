@@ -1,12 +1,12 @@
--- `crossing::told::numbers_of` meets its contract: each number told by its own function, and that they stand for the record is `crossing`.
+-- `crossing::to_numbers::numbers_of` meets its contract: each number told by its own function, and that they stand for the record is `crossing`.
 -- Assumes nothing.
 use borrow.Author.Needs.{needs}
 use mir.Syntax.{w8, w16}
 use mir.Val.{Fits}
 use Rattle.crossing.specs.Record.{numbersOf, Within}
 use Rattle.crossing.proofs.Crossing.{crossing}
-use Rattle.crossing.proofs.told.numbers_of.Statement.{statement}
-use Rattle.crossing.proofs.told.numbers_of.Tie as tie
+use Rattle.crossing.proofs.to_numbers.numbers_of.Statement.{statement}
+use Rattle.crossing.proofs.to_numbers.numbers_of.Tie as tie
 
 -- the type of a record says it
 within : (s : tie.Start) → Within (s .args .card)
@@ -29,7 +29,7 @@ returns c =
         f .before .last-of .ensures,
         f .before .before .first-of .ensures,
         t .tags-number .ensures,
-        s .state-at .ensures,
+        s .place-carried .ensures,
         s .before .state-number .ensures,
       ),
       simp (
@@ -37,7 +37,7 @@ returns c =
         f .before .last-of .ensures,
         f .before .before .first-of .ensures,
         t .tags-number .ensures,
-        s .state-at .ensures,
+        s .place-carried .ensures,
         s .before .state-number .ensures,
       ) (crossing (start .args .card) (within start)),
     )
