@@ -1,2 +1,1 @@
-pub mod Playing
-pub mod WrongAnswers
+pub mod Turning

@@ -1,54 +1,47 @@
-// A script of `busline` records played: each record carried out by `busline_records`, and its line handed over to
-// standard output. What arrives there no contract can say; how many bytes were handed over is
-// promised, and what they are `busline_records` promises line by line.
+// A turn of a script for a bus: all that happens between a read and a write. The whole records among
+// the bytes at hand are carried out by `busline_records`, and what is left over is moved to the front
+// of the buffer, behind which more is read. What is handed to the write call is promised here; that
+// it arrives is the operating system's.
 //
-// Offers: `play`.
+// Offers: `Turned`, `advance`.
 use busline_records::Progress;
-use busline_records::Said;
-use program_io::behind;
-use program_io::show;
+use playing::Then;
+use playing::keep;
 use text::parts::part;
 ghost use mathlib.Core.Path.{_≡_};
-ghost use lib.ListN.{length, drop};
-ghost use Rattle.busline_records.specs.Record.{textOf, saidOf};
-ghost use Rattle.busline_records.specs.Transcript.{transcript};
-ghost use Rattle.program_io.specs.Handing.{handedOver};
+ghost use mathlib.Core.List.{_++_};
+ghost use Prim.Native.Nat.{_-_};
+ghost use lib.ListN.{length, take, drop};
+ghost use Rattle.busline_records.specs.Transcript.{pieceOf};
+ghost use Rattle.busline_player.specs.Turn.{turnedBy};
+ghost use Rattle.playing.specs.Playing.{keptOf};
 
-// What a record leaves, and how many bytes of its line were handed over.
-struct Turned {
-    said: Said,
-    shown: usize,
+// What a turn leaves: the bytes at the front of the buffer that are left over, and those of the text
+// at the front of the output; how the script goes on.
+pub struct Turned {
+    pub progress: Progress,
+    pub kept: usize,
+    pub wrote: usize,
+    pub then: Then,
 }
 
-// Record by record, to the end of the script or to a record at which it stops: how many bytes were
-// handed over.
-pub fn play(script: &[u8]) -> usize
-    ensures answer { λ r. ⌜ r ≡ handedOver (transcript (now (script .entry))) ⌝ }
+// The whole records among the first `kept` bytes of a buffer, played, and what is left over moved to
+// its front.
+pub fn advance(progress: Progress, buffer: &mut [u8], kept: usize, out: &mut [u8]) -> Turned
+    ensures answer { λ r. ⌜ r ≡ turnedBy (pieceOf progress (take kept (now (buffer .entry))) (length (now (out .entry)))) ⌝ }
+    ensures text { λ r. ⌜ now (out .exit) ≡ pieceOf progress (take kept (now (buffer .entry))) (length (now (out .entry))) .text ++ drop (r .wrote) (now (out .entry)) ⌝ }
+    ensures left { λ r. ⌜ take (r .kept) (now (buffer .exit)) ≡ pieceOf progress (take kept (now (buffer .entry))) (length (now (out .entry))) .left ⌝ }
+    ensures buffer { λ r. ⌜ now (buffer .exit) ≡ keptOf (length (take kept (now (buffer .entry))) - r .kept) (r .kept) (now (buffer .entry)) ⌝ }
 {
-    let mut out = [0u8; 64];
-    let mut progress = busline_records::fresh();
-    let mut at: usize = 0;
-    let mut total: usize = 0;
-    while at < script.len() {
-        let turned = turn(progress, script, at, &mut out);
-        let said = turned.said;
-        total = behind(total, turned.shown, 18446744073709551615);
-        if said.stops {
-            return total;
-        }
-        at = behind(at, said.used, script.len());
-        progress = said.progress;
+    let script = part(buffer, 0, kept);
+    let said = busline_records::play(progress, script, out);
+    let left = keep(buffer, said.used, kept);
+    let next = said.progress;
+    let then = said.then;
+    Turned {
+        progress: next,
+        kept: left,
+        wrote: said.wrote,
+        then,
     }
-    total
-}
-
-// One record, from a place of the script on, and its line.
-fn turn(progress: Progress, script: &[u8], at: usize, out: &mut [u8]) -> Turned
-    ensures said { λ r. ⌜ r .said ≡ saidOf progress (drop at (now (script .entry))) (length (now (out .entry))) ⌝ }
-    ensures shown { λ r. ⌜ r .shown ≡ length (textOf progress (drop at (now (script .entry))) (length (now (out .entry)))) ⌝ }
-{
-    let rest = part(script, at, script.len());
-    let said = busline_records::carry_out(progress, rest, out);
-    let shown = show(out, said.wrote);
-    Turned { said, shown }
 }

@@ -1,7 +1,6 @@
--- Laws of the dock.
+-- Laws of the records of `busline`.
 --   place-below   an added card has one of the 30 places
 --   gone-long     what is kept, with the length of the line that was written
---   fronted-length   a copy over the front keeps the length
 --   closed        15 bytes copied to the front of 16, and the last byte set: the register of the 15
 -- Assumes nothing.
 use mathlib.Core.Path.{_≡_, ap, _∙_}
@@ -11,18 +10,20 @@ use Prim.Native.Nat.{ℕ, _+_, _-_, _≤_, _<_}
 use native.Mathlib.Omega.{arith}
 use borrow.Author.Tests.{ltb-true}
 use lib.Dec.{ltb}
-use lib.ListN.{length, take, drop, replicate, set, length-append, length-take, length-drop}
+use lib.ListN.{length, drop, replicate, set}
 use lib.Seq.{set-at}
 use Rattle.base.proofs.Cases.{cases}
 use Rattle.bus.specs.Bus.{most, countOf, addedTo}
 use Rattle.bus.specs.declared.Adding.the-variants.{Place}
 use Rattle.bus.specs.declared.Bus.{Bus}
 use Rattle.text.proofs.Writing.{fits-front}
-use Rattle.text.specs.Writing.{fronted}
+use Rattle.base.specs.Output.{copied}
+use Rattle.base.proofs.Copying.{copied-length}
 use Rattle.card_record.specs.declared.Card.{Card}
+use Rattle.playing.specs.declared.Then.the-variants.{Goes}
 use Rattle.wire.specs.Responses.{lastByte}
 use Rattle.busline_records.specs.Reading.{registerOf}
-use Rattle.busline_records.specs.Record.{goneOn}
+use Rattle.busline_records.specs.Record.{leftAt}
 use Rattle.busline_records.specs.declared.Progress.{Progress}
 
 pub place-below : (bus : Bus) (card : Card) (n : ℕ) → addedTo bus card .adding ≡ Place n → n < 30
@@ -39,18 +40,14 @@ place-below bus card n e =
     let z : _≡_ {A = ℕ} 0 1 = cc in
     absurd (omega arith))
 
-pub gone-long : {w : Progress} {used a b : ℕ} → a ≡ b → goneOn w used a ≡ goneOn w used b
-gone-long {w} {used} e = ap (λ (n : ℕ). goneOn w used n) e
+pub gone-long : {w : Progress} {used a b : ℕ} → a ≡ b → leftAt w used a Goes ≡ leftAt w used b Goes
+gone-long {w} {used} e = ap (λ (n : ℕ). leftAt w used n Goes) e
 
-pub fronted-length : (s o : List ℕ) → length (fronted s o) ≡ length o
-fronted-length s o =
-    length-append (take (length o) s) (drop (length s) o) ∙ omega (arith, length-take (length o) s, length-drop (length s) o)
-
-pub closed : (given body cid : List ℕ) (last : ℕ) → body ≡ fronted given (replicate 15 0) → cid ≡ fronted body (replicate 16 0)
-    → last ≡ lastByte body → set cid 15 last ≡ registerOf (fronted given (replicate 15 0))
+pub closed : (given body cid : List ℕ) (last : ℕ) → body ≡ copied given (replicate 15 0) 0 → cid ≡ copied body (replicate 16 0) 0
+    → last ≡ lastByte body → set cid 15 last ≡ registerOf (copied given (replicate 15 0) 0)
 unfolding registerOf
 closed given body cid last eb ec el =
-    let n : length body ≡ 15 = ap length eb ∙ fronted-length given (replicate 15 0) in
+    let n : length body ≡ 15 = ap length eb ∙ copied-length given (replicate 15 0) 0 in
     let zeros : List ℕ = replicate 16 0 in
     let h : length body ≤ length zeros = omega arith in
     let p : cid ≡ body ++ (0 ∷ []) = ec ∙ fits-front body zeros h ∙ ap (λ (k : ℕ). body ++ drop k zeros) n in

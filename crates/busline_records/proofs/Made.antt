@@ -13,14 +13,14 @@ use lib.Seq.{take-at, getD-append-seam}
 use Rattle.crc.specs.Bits.{bits}
 use Rattle.crc.specs.Crc.{divide, remainder}
 use Rattle.lock.specs.Passwords.{stored, holding, poweredOf, lockMade as lockMadeOf}
-use Rattle.text.specs.Writing.{fronted}
+use Rattle.base.specs.Output.{copied}
+use Rattle.base.proofs.Copying.{copied-length}
 use Rattle.card_record.specs.Making.{passwordMade, madeOf}
 use Rattle.card_record.specs.declared.Made.{Made}
 use Rattle.card_record.specs.declared.Making.the-variants.{Done}
 use Rattle.store.specs.Map.{entriesRight}
 use Rattle.wire.specs.Frames.{crc7Of}
 use Rattle.wire.specs.Responses.{lastByte, registerRight}
-use Rattle.busline_records.proofs.Laws.{fronted-length}
 use Rattle.busline_records.specs.Cards.{dockCsd, madeWith, cardMade, dockCard}
 use Rattle.busline_records.specs.Reading.{cidBody, registerOf, identifierOf}
 
@@ -46,4 +46,4 @@ unfolding cardMade
 card-of s =
     ap (λ (m : Made). m .card)
     (make-done (identifierOf s)
-    (register-right (fronted (cidBody s) (replicate 15 0)) (fronted-length (cidBody s) (replicate 15 0))))
+    (register-right (copied (cidBody s) (replicate 15 0) 0) (copied-length (cidBody s) (replicate 15 0) 0)))

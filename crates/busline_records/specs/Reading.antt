@@ -6,23 +6,22 @@ use Prim.Native.Nat.{ℕ}
 use lib.Dec.{eqb, leb, ltb}
 use lib.ListN.{length, take, drop, getD, replicate}
 use Rattle.base.specs.Choice.{pick, unless}
-use Rattle.text.specs.Writing.{fronted}
+use Rattle.base.specs.Output.{copied}
 use Rattle.wire.specs.Responses.{lastByte}
 use Rattle.busline_records.specs.declared.Asked.{Asked}
-use Rattle.busline_records.specs.declared.Asked.the-variants.{Card, Frame, Stop}
-use Rattle.busline_records.specs.declared.Stop.the-variants.{Ended, BadKind, Cut}
+use Rattle.busline_records.specs.declared.Asked.the-variants.{Card, Frame, BadKind, More}
 
--- "a short body `cut`": what is asked for where the script has so many bytes behind the kind
+-- what is asked for where the script has so many bytes behind the kind: more bytes, where it has fewer
 abbrev pub complete : ℕ → List ℕ → Asked → Asked
-complete body s then = unless (ltb body (length s)) (Stop Cut) then
+complete body s then = unless (ltb body (length s)) More then
 
 -- "01, 15 CID bytes ..; 02, a 6-byte frame. .. Another kind prints `bad kind`"
 abbrev pub kindAsked : ℕ → List ℕ → Asked
-kindAsked kind s = pick (eqb kind 1) (complete 15 s Card) (pick (eqb kind 2) (complete 6 s Frame) (Stop BadKind))
+kindAsked kind s = pick (eqb kind 1) (complete 15 s Card) (pick (eqb kind 2) (complete 6 s Frame) BadKind)
 
--- an empty input has no record
+-- where there are no bytes there is no record yet
 unfoldable pub askedOf : List ℕ → Asked
-askedOf s = unless (leb 1 (length s)) (Stop Ended) (kindAsked (getD s 0 0) s)
+askedOf s = unless (leb 1 (length s)) More (kindAsked (getD s 0 0) s)
 
 -- the bodies: 15 bytes, or 6
 abbrev pub cidBody : List ℕ → List ℕ
@@ -37,4 +36,4 @@ registerOf fifteen = fifteen ++ (lastByte fifteen ∷ [])
 
 -- the identifier of a record: a body that is cut, of which no card is made, is filled with zeros
 abbrev pub identifierOf : List ℕ → List ℕ
-identifierOf s = registerOf (fronted (cidBody s) (replicate 15 0))
+identifierOf s = registerOf (copied (cidBody s) (replicate 15 0) 0)

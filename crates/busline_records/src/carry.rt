@@ -2,19 +2,20 @@
 use crate::Asked;
 use crate::Progress;
 use crate::Said;
-use crate::Stop;
+use crate::left;
 use crate::print::added_line;
+use crate::print::bad_kind_line;
 use crate::print::shown_line;
-use crate::print::stop_line;
 use crate::reading::identifier;
 use card_record::Card;
+use playing::Then;
 use text::parts::part;
 ghost use mathlib.Core.Path.{_≡_};
 ghost use Prim.Native.Nat.{_≤_};
 ghost use lib.ListN.{length};
 ghost use Rattle.busline_records.specs.Cards.{cardMade};
-ghost use Rattle.busline_records.specs.Printing.{stopText};
-ghost use Rattle.busline_records.specs.Record.{following, ended, cardText, cardSaid, frameText, frameSaid, askedText, askedSaid};
+ghost use Rattle.busline_records.specs.Printing.{badKindText};
+ghost use Rattle.busline_records.specs.Record.{following, stoppedBy, putOff, cardText, cardSaid, frameText, frameSaid, askedText, askedSaid};
 ghost use Rattle.text.specs.Writing.{Wrote};
 
 // The number of the next frame. Where a 64-bit number has no next it stays.
@@ -27,16 +28,11 @@ fn next(count: u64) -> u64
     count
 }
 
-// A record at which the script stops.
-pub fn ends(progress: Progress, wrote: usize) -> Said
-    ensures { λ r. ⌜ r ≡ ended progress wrote ⌝ }
+// A record that has to wait.
+pub fn put_off(progress: Progress, then: Then) -> Said
+    ensures { λ r. ⌜ r ≡ putOff progress then ⌝ }
 {
-    Said {
-        progress,
-        used: 0,
-        wrote,
-        stops: true,
-    }
+    left(progress, 0, 0, then)
 }
 
 // The card of a record of kind 01: lent one erased memory and a map of one entry.
@@ -51,19 +47,21 @@ fn card_of(script: &[u8]) -> Card
     made.card
 }
 
-fn stopped(progress: Progress, stop: Stop, out: &mut [u8]) -> Said
+fn stopped(progress: Progress, out: &mut [u8]) -> Said
     requires { ⌜ 64 ≤ length (now out) ⌝ }
-    ensures answer { λ r. ⌜ r ≡ ended progress (length (stopText stop)) ⌝ }
-    ensures text { λ r. ⌜ Wrote (now (out .entry)) (now (out .exit)) 0 (r .wrote) (stopText stop) ⌝ }
+    ensures answer { λ r. ⌜ r ≡ stoppedBy progress badKindText ⌝ }
+    ensures text { λ r. ⌜ Wrote (now (out .entry)) (now (out .exit)) 0 (r .wrote) badKindText ⌝ }
+    ensures short { λ r. ⌜ r .wrote ≤ 64 ⌝ }
 {
-    let wrote = stop_line(stop, out);
-    ends(progress, wrote)
+    let wrote = bad_kind_line(out);
+    left(progress, 0, wrote, Then::Stops)
 }
 
 fn added(progress: Progress, script: &[u8], out: &mut [u8]) -> Said
     requires { ⌜ 64 ≤ length (now out) ⌝ }
     ensures answer { λ r. ⌜ r ≡ cardSaid progress (now (script .entry)) ⌝ }
     ensures text { λ r. ⌜ Wrote (now (out .entry)) (now (out .exit)) 0 (r .wrote) (cardText progress (now (script .entry))) ⌝ }
+    ensures short { λ r. ⌜ r .wrote ≤ 64 ⌝ }
 {
     let card = card_of(script);
     let bus = progress.bus;
@@ -78,7 +76,7 @@ fn added(progress: Progress, script: &[u8], out: &mut [u8]) -> Said
         },
         used: 16,
         wrote,
-        stops: false,
+        then: Then::Goes,
     }
 }
 
@@ -87,6 +85,7 @@ fn framed(progress: Progress, script: &[u8], out: &mut [u8]) -> Said
     requires { ⌜ 64 ≤ length (now out) ⌝ }
     ensures answer { λ r. ⌜ r ≡ frameSaid progress (now (script .entry)) ⌝ }
     ensures text { λ r. ⌜ Wrote (now (out .entry)) (now (out .exit)) 0 (r .wrote) (frameText progress (now (script .entry))) ⌝ }
+    ensures short { λ r. ⌜ r .wrote ≤ 64 ⌝ }
 {
     let count = next(progress.count);
     let frame = part(script, 1, 6);
@@ -100,7 +99,7 @@ fn framed(progress: Progress, script: &[u8], out: &mut [u8]) -> Said
         progress: Progress { bus: next, count },
         used: 7,
         wrote,
-        stops: false,
+        then: Then::Goes,
     }
 }
 
@@ -108,10 +107,12 @@ pub fn carry(progress: Progress, asked: Asked, script: &[u8], out: &mut [u8]) ->
     requires { ⌜ 64 ≤ length (now out) ⌝ }
     ensures answer { λ r. ⌜ r ≡ askedSaid progress asked (now (script .entry)) ⌝ }
     ensures text { λ r. ⌜ Wrote (now (out .entry)) (now (out .exit)) 0 (r .wrote) (askedText progress asked (now (script .entry))) ⌝ }
+    ensures short { λ r. ⌜ r .wrote ≤ 64 ⌝ }
 {
     match asked {
         Asked::Card => added(progress, script, out),
         Asked::Frame => framed(progress, script, out),
-        Asked::Stop(stop) => stopped(progress, stop, out),
+        Asked::BadKind => stopped(progress, out),
+        Asked::More => put_off(progress, Then::Waits),
     }
 }

@@ -1,35 +1,38 @@
-// The lines. Each function writes its line at the front of the output, where it has room, and
-// answers how many bytes it is.
-use crate::Stop;
+// The lines, none of which has more than 64 bytes. Each function writes its line at the front of the
+// output, as far as there is room, and answers how many bytes it wrote.
 use base::Refusal;
 use bus::Adding;
 use bus::Shown;
+use text::lines::named;
+use text::lines::plain;
+use text::lines::refused_by;
+use text::lines::say;
 use text::parts::part;
-use text::text::named;
-use text::text::plain;
-use text::text::refused_by;
-use text::text::say;
 ghost use mathlib.Core.Path.{_≡_};
-ghost use Prim.Native.Nat.{ℕ, _≤_, _<_};
-ghost use lib.ListN.{length};
+ghost use Prim.Native.Nat.{ℕ, _<_};
 ghost use Rattle.bus.specs.declared.Adding.the-variants.{Place};
-ghost use Rattle.busline_records.specs.Printing.{printsSilent, stopText, addedText, refusedText, shownText};
-ghost use Rattle.text.specs.Writing.{Wrote};
+ghost use Rattle.busline_records.specs.Printing.{printsSilent, badKindText, cutText, addedText, refusedText, shownText, Line};
+ghost use Rattle.text.specs.Writing.{Put};
 
-pub fn stop_line(stop: Stop, out: &mut [u8]) -> usize
-    requires { ⌜ 64 ≤ length (now out) ⌝ }
-    ensures { λ r. ⌜ Wrote (now (out .entry)) (now (out .exit)) 0 r (stopText stop) ⌝ }
+pub fn bad_kind_line(out: &mut [u8]) -> usize
+    ensures { λ r. ⌜ Line (now (out .entry)) (now (out .exit)) r badKindText ⌝ }
 {
-    match stop {
-        Stop::Ended => 0,
-        Stop::BadKind => plain(b"bad kind", out),
-        Stop::Cut => plain(b"cut", out),
+    plain(b"bad kind", out)
+}
+
+// What is printed of the bytes that are left over at the end of the input, as far as there is room.
+pub fn cut(rest: &[u8], out: &mut [u8]) -> usize
+    ensures { λ r. ⌜ Put (now (out .entry)) (now (out .exit)) 0 r (cutText (now (rest .entry))) ⌝ }
+{
+    if rest.len() == 0 {
+        return 0;
     }
+    plain(b"cut", out)
 }
 
 pub fn added_line(adding: Adding, out: &mut [u8]) -> usize
-    requires { ⌜ (64 ≤ length (now out)) × ((n : ℕ) → adding ≡ Place n → n < 30) ⌝ }
-    ensures { λ r. ⌜ Wrote (now (out .entry)) (now (out .exit)) 0 r (addedText adding) ⌝ }
+    requires { ⌜ ((n : ℕ) → adding ≡ Place n → n < 30) ⌝ }
+    ensures { λ r. ⌜ Line (now (out .entry)) (now (out .exit)) r (addedText adding) ⌝ }
 {
     match adding {
         Adding::Place(place) => named(b"card", place as u64 + 1, out),
@@ -45,8 +48,7 @@ fn prints_silent(why: Refusal) -> bool
 }
 
 fn refused_line(count: u64, why: Refusal, out: &mut [u8]) -> usize
-    requires { ⌜ 64 ≤ length (now out) ⌝ }
-    ensures { λ r. ⌜ Wrote (now (out .entry)) (now (out .exit)) 0 r (refusedText count why) ⌝ }
+    ensures { λ r. ⌜ Line (now (out .entry)) (now (out .exit)) r (refusedText count why) ⌝ }
 {
     if prints_silent(why) {
         return say(count, b"silent", b"", out);
@@ -55,8 +57,7 @@ fn refused_line(count: u64, why: Refusal, out: &mut [u8]) -> usize
 }
 
 pub fn shown_line(count: u64, shown: Shown, line: [u8; 17], out: &mut [u8]) -> usize
-    requires { ⌜ 64 ≤ length (now out) ⌝ }
-    ensures { λ r. ⌜ Wrote (now (out .entry)) (now (out .exit)) 0 r (shownText count shown line) ⌝ }
+    ensures { λ r. ⌜ Line (now (out .entry)) (now (out .exit)) r (shownText count shown line) ⌝ }
 {
     match shown {
         Shown::Line(n) => {

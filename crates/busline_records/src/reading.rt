@@ -1,7 +1,6 @@
 // What a record asks for, and the identifier in its body.
 use crate::Asked;
-use crate::Stop;
-use text::parts::front;
+use base::copy;
 use text::parts::part;
 ghost use mathlib.Core.Path.{_≡_};
 ghost use Rattle.busline_records.specs.Reading.{complete, askedOf, identifierOf};
@@ -11,7 +10,7 @@ fn complete(body: usize, script: &[u8], then: Asked) -> Asked
     ensures { λ r. ⌜ r ≡ complete body (now (script .entry)) then ⌝ }
 {
     if script.len() <= body {
-        return Asked::Stop(Stop::Cut);
+        return Asked::More;
     }
     then
 }
@@ -21,7 +20,7 @@ pub fn read(script: &[u8]) -> Asked
     ensures answer { λ r. ⌜ r ≡ askedOf (now (script .entry)) ⌝ }
 {
     if script.len() < 1 {
-        return Asked::Stop(Stop::Ended);
+        return Asked::More;
     }
     let kind = script[0];
     if kind == 1 {
@@ -30,7 +29,7 @@ pub fn read(script: &[u8]) -> Asked
     if kind == 2 {
         return complete(6, script, Asked::Frame);
     }
-    Asked::Stop(Stop::BadKind)
+    Asked::BadKind
 }
 
 // The identifier of the record at the front of a script: the 15 bytes of its body, with the last
@@ -40,10 +39,10 @@ pub fn identifier(script: &[u8]) -> [u8; 16]
 {
     let mut body = [0u8; 15];
     let given = part(script, 1, 15);
-    front(given, &mut body);
+    copy(given, &mut body, 0);
     let last = wire::last_byte(&body);
     let mut cid = [0u8; 16];
-    front(&body, &mut cid);
+    copy(&body, &mut cid, 0);
     cid[15] = last;
     cid
 }

@@ -1,2 +1,3 @@
-pub mod Playing
-pub mod WrongAnswers
+pub mod Hand
+pub mod Piece
+pub mod Turning

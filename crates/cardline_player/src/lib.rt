@@ -1,74 +1,103 @@
-// A script for one card played: each record carried out by `cardline_records`, and its line handed over to
-// standard output. What arrives there no contract can say; how many bytes were handed over is
-// promised, and what they are `cardline_records` promises line by line.
+// A turn of a script for one card: all that happens between a read and a write. The record at the
+// front of the bytes at hand is carried out by `cardline_records`; where it is not whole yet they are
+// moved to the front of the buffer, behind which more is read. What is handed to the write call is
+// promised here; that it arrives is the operating system's.
 //
-// Offers: `play`.
+// Offers: `Turned`, `advance`.
 use cardline_records::Progress;
 use cardline_records::Said;
-use program_io::behind;
-use program_io::show;
+use playing::Then;
+use playing::keep;
 use text::parts::part;
 ghost use mathlib.Core.Path.{_≡_};
+ghost use mathlib.Core.List.{_++_};
+ghost use Prim.Native.Nat.{_+_, _-_, _<_, min};
 ghost use lib.ListN.{length, drop};
-ghost use Rattle.cardline_records.specs.Record.{roomy, textOf, memoryAfter, mapAfter, saidOf};
-ghost use Rattle.cardline_records.specs.Transcript.{records, transcript};
-ghost use Rattle.cardline_records.specs.Progress.{freshProgress};
-ghost use Rattle.program_io.specs.Handing.{handedOver};
+ghost use Rattle.cardline_player.specs.Turn.{atHand, leftBy, movedBy, turnedBy, turnOf, bufferOf};
+ghost use Rattle.cardline_records.specs.Record.{textOf, memoryAfter, mapAfter};
+ghost use Rattle.cardline_script.specs.Whole.{longestRecord};
+ghost use Rattle.playing.specs.declared.Then.the-variants.{Waits};
 
-// What a record leaves, and how many bytes of its line were handed over.
-struct Turned {
-    said: Said,
-    shown: usize,
+// What a turn leaves: the bytes of the buffer that are at hand, from one place to another; those of
+// the line at the front of the output; how the script goes on.
+pub struct Turned {
+    pub progress: Progress,
+    pub from: usize,
+    pub to: usize,
+    pub wrote: usize,
+    pub then: Then,
 }
 
-// A script, from buffers of zeros: room for the largest memory and map that a record lends, and for
-// the longest line. The answer is how many bytes were handed over.
-pub fn play(script: &[u8]) -> usize
-    ensures answer { λ r. ⌜ r ≡ handedOver (transcript (now (script .entry))) ⌝ }
+// The bytes at hand.
+fn at_hand(buffer: &[u8], from: usize, to: usize) -> &[u8]
+    ensures { λ r. ⌜ now r ≡ atHand from to (now (buffer .entry)) ⌝ }
 {
-    let mut memory = [0u8; 528384];
-    let mut map = [0u8; 256];
-    let mut out = [0u8; 131136];
-    run(script, &mut memory, &mut map, &mut out)
+    let first = part(buffer, 0, to);
+    part(first, from, buffer.len())
 }
 
-// Record by record, to the end of the script or to a record at which it stops.
-fn run(script: &[u8], memory: &mut [u8], map: &mut [u8], out: &mut [u8]) -> usize
-    requires { ⌜ length (now out) ≡ roomy ⌝ }
-    ensures answer { λ r. ⌜ r ≡ handedOver (records (length (now (script .entry))) freshProgress (now (script .entry)) (now (memory .entry)) (now (map .entry))) ⌝ }
+// The place so many bytes behind another, up to a third.
+fn behind(from: usize, used: usize, to: usize) -> usize
+    ensures { λ r. ⌜ r ≡ min (from + used) to ⌝ }
 {
-    let mut progress = cardline_records::fresh();
-    let mut at: usize = 0;
-    let mut total: usize = 0;
-    while at < script.len() {
-        let turned = turn(progress, script, at, memory, map, out);
-        let said = turned.said;
-        total = behind(total, turned.shown, 18446744073709551615);
-        if said.stops {
-            return total;
-        }
-        at = behind(at, said.used, script.len());
-        progress = said.progress;
+    if to <= from {
+        return to;
     }
-    total
+    if to - from <= used {
+        return to;
+    }
+    from + used
 }
 
-// One record, from a place of the script on, and its line.
-fn turn(
+// What is at hand behind a record: what it left over, at the front of the buffer if it waits for
+// more.
+fn settle(said: Said, from: usize, to: usize, buffer: &mut [u8]) -> Turned
+    ensures answer { λ r. ⌜ r ≡ turnedBy (said .then) said from to (min to (length (now (buffer .entry))) - from) ⌝ }
+    ensures buffer { λ _. ⌜ now (buffer .exit) ≡ movedBy (said .then) from (min to (length (now (buffer .entry))) - from) (now (buffer .entry)) ⌝ }
+{
+    let then = said.then;
+    match then {
+        Then::Goes => leave(said, behind(from, said.used, to), to, Then::NoRoom),
+        Then::Stops => leave(said, to, to, Then::Stops),
+        Then::Waits => {
+            let n = keep(buffer, from, to);
+            leave(said, 0, n, Then::Waits)
+        }
+        Then::NoRoom => leave(said, from, to, Then::NoRoom),
+    }
+}
+
+fn leave(said: Said, from: usize, to: usize, then: Then) -> Turned
+    ensures { λ r. ⌜ r ≡ leftBy said from to then ⌝ }
+{
+    let progress = said.progress;
+    Turned {
+        progress,
+        from,
+        to,
+        wrote: said.wrote,
+        then,
+    }
+}
+
+// The record at the front of the bytes at hand, carried out.
+pub fn advance(
     progress: Progress,
-    script: &[u8],
-    at: usize,
+    from: usize,
+    to: usize,
+    buffer: &mut [u8],
     memory: &mut [u8],
     map: &mut [u8],
     out: &mut [u8],
 ) -> Turned
-    ensures said { λ r. ⌜ r .said ≡ saidOf progress (drop at (now (script .entry))) (now (memory .entry)) (now (map .entry)) (length (now (out .entry))) ⌝ }
-    ensures memory { λ _. ⌜ now (memory .exit) ≡ memoryAfter progress (drop at (now (script .entry))) (now (memory .entry)) (now (map .entry)) (length (now (out .entry))) ⌝ }
-    ensures map { λ _. ⌜ now (map .exit) ≡ mapAfter progress (drop at (now (script .entry))) (now (memory .entry)) (now (map .entry)) (length (now (out .entry))) ⌝ }
-    ensures shown { λ r. ⌜ r .shown ≡ length (textOf progress (drop at (now (script .entry))) (now (memory .entry)) (now (map .entry)) (length (now (out .entry)))) ⌝ }
+    ensures answer { λ r. ⌜ r ≡ turnOf progress from to (now (buffer .entry)) (now (memory .entry)) (now (map .entry)) (length (now (out .entry))) ⌝ }
+    ensures buffer { λ _. ⌜ now (buffer .exit) ≡ bufferOf progress from to (now (buffer .entry)) (now (memory .entry)) (now (map .entry)) (length (now (out .entry))) ⌝ }
+    ensures memory { λ _. ⌜ now (memory .exit) ≡ memoryAfter progress (atHand from to (now (buffer .entry))) (now (memory .entry)) (now (map .entry)) (length (now (out .entry))) ⌝ }
+    ensures map { λ _. ⌜ now (map .exit) ≡ mapAfter progress (atHand from to (now (buffer .entry))) (now (memory .entry)) (now (map .entry)) (length (now (out .entry))) ⌝ }
+    ensures text { λ r. ⌜ now (out .exit) ≡ textOf progress (atHand from to (now (buffer .entry))) (now (memory .entry)) (now (map .entry)) (length (now (out .entry))) ++ drop (r .wrote) (now (out .entry)) ⌝ }
+    ensures room { λ r. ⌜ (r .then ≡ Waits → r .to < longestRecord) ⌝ }
 {
-    let rest = part(script, at, script.len());
-    let said = cardline_records::carry_out(progress, rest, memory, map, out);
-    let shown = show(out, said.wrote);
-    Turned { said, shown }
+    let script = at_hand(buffer, from, to);
+    let said = cardline_records::carry_out(progress, script, memory, map, out);
+    settle(said, from, to, buffer)
 }

@@ -1,6 +1,6 @@
 -- Laws of parts of a list, as far as it goes.
 --   lent-front, lent-back   the first k of a list and the rest, where k is n or as many as there are
---   filled-length      a memory whose first n bytes are memoryFilled has as many of them as before
+--   filled-length      a memory whose first n bytes are filled has as many of them as before
 --   stepped-answer, stepped-memory, stepped-map, stepped-output    a call that is lent the first bytes of two buffers
 --   told-left, told-text    what a call leaves and its line, from what it answered
 --   called-memory, called-map, called-said, called-text    the same call, said otherwise

@@ -1,4 +1,6 @@
-pub mod Enough
+pub mod Pieces
+pub mod Reading
 pub mod Lending
+pub mod Lengths
 pub mod Sending
 pub mod WrongAnswers

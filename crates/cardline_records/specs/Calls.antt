@@ -1,5 +1,6 @@
 -- The calls of the card, kinds 02 to 06.
 -- Assumes nothing.
+use mathlib.Core.Bool.{true}
 use mathlib.Core.List.{List, [], _++_}
 use Prim.Native.Nat.{ℕ, _+_}
 use lib.Dec.{eqb}
@@ -76,7 +77,7 @@ blockText count (Refused refusal) output = refusedLine count refusal output
 -- | 05 | `N done` |
 -- | 06 | `N power` |
 abbrev pub replyText : ℕ → Call → Registers → Outcome → Sent → List ℕ → List ℕ
-replyText count call.Frame registers outcome sent output = frameText count registers outcome sent
+replyText count (call.Frame wins) registers outcome sent output = frameText count registers outcome sent
 replyText count call.BlockIn registers outcome sent output = takenText count outcome
 replyText count call.BlockOut registers outcome sent output = blockText count outcome output
 replyText count call.WorkDone registers outcome sent output = wordLine count doneWord []
@@ -101,9 +102,10 @@ unfoldable pub callSaid : Progress → Call → List ℕ → ℕ → List ℕ �
 callSaid w call input used memory map room =
     callLeft w call used (stepLent w call input memory map room) (outputLent w call memory map (blank room))
 
--- which call a kind is, its input, the bytes of its output, and how long its record is: the other calls than 04 are lent no output
+-- which call a kind is ("In its own call a card is alone on the line, so CMD2 wins"), its input, and the bytes of its output: the other
+-- calls than 04 are lent none
 abbrev pub calledBy : Calling → Call
-calledBy (Frame n) = call.Frame
+calledBy (Frame n) = call.Frame true
 calledBy (BlockIn n) = call.BlockIn
 calledBy (BlockOut n) = call.BlockOut
 calledBy WorkDone = call.WorkDone
@@ -122,10 +124,3 @@ roomOf (BlockIn n) = 0
 roomOf (BlockOut n) = n
 roomOf WorkDone = 0
 roomOf PowerOn = 0
-
-abbrev pub usedBy : Calling → ℕ
-usedBy (Frame n) = n + 2
-usedBy (BlockIn n) = n + 3
-usedBy (BlockOut n) = 3
-usedBy WorkDone = 1
-usedBy PowerOn = 1

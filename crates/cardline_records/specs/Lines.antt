@@ -1,4 +1,4 @@
--- The lines that the bench alone prints. "Every line ends in one LF .. HEX is upper case with no spaces; K, N and R are decimal."
+-- The lines that `cardline` alone prints. "Every line ends in one LF .. HEX is upper case with no spaces; K, N and R are decimal."
 -- Assumes nothing.
 use mathlib.Core.List.{List, _++_}
 use Prim.Native.Nat.{ℕ}

@@ -70,9 +70,3 @@ lentLooked (Poke entry value) lent = lent
 
 abbrev pub worldLooked : Progress → Looking → Progress
 worldLooked w looking = withLent w (lentLooked looking (w .lent))
-
-abbrev pub usedLooked : Looking → ℕ
-usedLooked Card = 1
-usedLooked (Memory from n) = 6
-usedLooked (Lend sizes) = 5
-usedLooked (Poke entry value) = 3

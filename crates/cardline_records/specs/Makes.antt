@@ -4,11 +4,11 @@ use mathlib.Core.Bool.{true}
 use mathlib.Core.List.{List, _++_}
 use Prim.Native.Nat.{ℕ, _+_}
 use lib.ListN.{length, take, drop, replicate}
+use Rattle.base.specs.Output.{copied}
 use Rattle.text.specs.Lines.{plainLine, refusalLine}
 use Rattle.cardline_script.specs.Reading.{four}
 use Rattle.cardline_records.specs.Words.{madeWord}
 use Rattle.cardline_records.specs.Progress.{goneOn, ended}
-use Rattle.text.specs.Writing.{fronted}
 use Rattle.cardline_script.specs.declared.Making.{Making}
 use Rattle.cardline_records.specs.declared.Said.{Said}
 use Rattle.cardline_script.specs.declared.Sizes.{Sizes}
@@ -28,11 +28,11 @@ memoryMade m memory = memoryFilled (m .memory) (m .fill) memory
 
 -- the m map bytes, over the front of the map
 abbrev pub mapMade : Making → List ℕ → List ℕ → List ℕ
-mapMade m s map = fronted (take (m .map) (drop 6 s)) map
+mapMade m s map = copied (take (m .map) (drop 6 s)) map 0
 
 -- the 16 bytes of a register from a place on
 abbrev pub registerAt : List ℕ → ℕ → List ℕ
-registerAt s at = fronted (take 16 (drop at s)) (replicate 16 0)
+registerAt s at = copied (take 16 (drop at s)) (replicate 16 0) 0
 
 -- the card of the record's bytes, lent a memory of so many bytes and a map
 unfoldable pub madeFrom : Making → List ℕ → ℕ → List ℕ → Made

@@ -11,6 +11,8 @@ use Rattle.card_record.specs.declared.Card.{Card}
 use Rattle.cardline_records.specs.declared.Said.{Said}
 use Rattle.cardline_script.specs.declared.Sizes.{Sizes}
 use Rattle.cardline_records.specs.declared.Progress.{Progress}
+use Rattle.playing.specs.declared.Then.{Then}
+use Rattle.playing.specs.declared.Then.the-variants.{Goes, Stops}
 
 -- before a script there is no card, and nothing is lent
 unfoldable pub freshProgress : Progress
@@ -33,10 +35,14 @@ withLent w sizes = record { card = w .card; made = w .made; own = w .own; lent =
 
 -- a record that is carried out, and one at which the script stops
 abbrev pub goneOn : Progress → ℕ → ℕ → Said
-goneOn w used wrote = record { progress = w; used = used; wrote = wrote; stops = false }
+goneOn w used wrote = record { progress = w; used = used; wrote = wrote; then = Goes }
 
 abbrev pub ended : Progress → ℕ → Said
-ended w wrote = record { progress = w; used = 0; wrote = wrote; stops = true }
+ended w wrote = record { progress = w; used = 0; wrote = wrote; then = Stops }
+
+-- nothing was done: the script goes on with more bytes, or with a longer output
+abbrev pub untouched : Progress → Then → Said
+untouched w then = record { progress = w; used = 0; wrote = 0; then = then }
 
 -- what the calls are lent of the two buffers: "the first ones of each and, past the end, surplus bytes that hold 00", which stand behind the
 -- card's own; a size over the buffer's counts as the buffer's

@@ -5,30 +5,30 @@ use Prim.Native.Nat.{ℕ}
 use lib.Dec.{leb}
 use lib.ListN.{length}
 use Rattle.base.specs.Choice.{unless}
-use Rattle.cardline_records.specs.Calls.{memoryLent, mapLent, callText, callSaid, calledBy, inputOf, roomOf, usedBy}
+use Rattle.cardline_records.specs.Calls.{memoryLent, mapLent, callText, callSaid, calledBy, inputOf, roomOf}
 use Rattle.text.specs.Lines.{plainLine}
-use Rattle.cardline_records.specs.Looks.{lookText, mapLooked, worldLooked, usedLooked}
+use Rattle.cardline_records.specs.Looks.{lookText, mapLooked, worldLooked}
 use Rattle.cardline_records.specs.Makes.{memoryMade, mapMade, cardMade, makeText, makeSaid}
 use Rattle.cardline_script.specs.Reading.{askedOf}
-use Rattle.cardline_records.specs.Wires.{wireText, usedWiring}
+use Rattle.cardline_script.specs.Whole.{usedBy, usedLooked, usedWiring}
+use Rattle.cardline_records.specs.Wires.{wireText}
 use Rattle.cardline_records.specs.Words.{noCardWord, tooBigWord}
-use Rattle.text.specs.Words.{badKindWord, cutWord}
-use Rattle.cardline_records.specs.Progress.{recordCounted, goneOn, ended}
+use Rattle.text.specs.Words.{badKindWord}
+use Rattle.cardline_records.specs.Progress.{recordCounted, goneOn, ended, untouched}
 use Rattle.cardline_script.specs.declared.Asked.{Asked}
 use Rattle.cardline_script.specs.declared.Asked.the-variants as asked
 use Rattle.cardline_script.specs.declared.Going.{Going}
 use Rattle.cardline_script.specs.declared.Going.the-variants.{Call, Look, Wire}
 use Rattle.cardline_records.specs.declared.Said.{Said}
 use Rattle.cardline_script.specs.declared.Stop.{Stop}
-use Rattle.cardline_script.specs.declared.Stop.the-variants.{Ended, NoCard, BadKind, Cut, TooBig}
+use Rattle.cardline_script.specs.declared.Stop.the-variants.{NoCard, BadKind, TooBig}
 use Rattle.cardline_records.specs.declared.Progress.{Progress}
+use Rattle.playing.specs.declared.Then.the-variants.{Waits, NoRoom}
 
--- why a script stops: "An empty script prints nothing"
+-- why a script stops
 abbrev pub stopText : Stop → List ℕ
-stopText Ended = []
 stopText NoCard = plainLine noCardWord
 stopText BadKind = plainLine badKindWord
-stopText Cut = plainLine cutWord
 stopText TooBig = plainLine tooBigWord
 
 -- a record of a made card: the line, the buffers afterwards, and what is kept
@@ -52,30 +52,34 @@ goingSaid w (Call calling) s memory map = callSaid w (calledBy calling) (inputOf
 goingSaid w (Look looking) s memory map = goneOn (worldLooked w looking) (usedLooked looking) (length (lookText w looking memory map))
 goingSaid w (Wire wiring) s memory map = goneOn w (usedWiring wiring) (length (wireText (w .count) wiring s))
 
--- any record: its line
+-- any record: its line. One that is not whole yet does nothing, and waits for more bytes
 unfoldable pub askedText : Progress → Asked → List ℕ → List ℕ → List ℕ → List ℕ
+askedText w asked.More s memory map = []
 askedText w (asked.Stop stop) s memory map = stopText stop
 askedText w (asked.Make making) s memory map = makeText (cardMade making s memory map .making)
 askedText w (asked.Go going) s memory map = goingText (recordCounted w) going s memory map
 
 -- the buffers afterwards
 unfoldable pub askedMemory : Progress → Asked → List ℕ → List ℕ → List ℕ → List ℕ
+askedMemory w asked.More s memory map = memory
 askedMemory w (asked.Stop stop) s memory map = memory
 askedMemory w (asked.Make making) s memory map = memoryMade making memory
 askedMemory w (asked.Go going) s memory map = goingMemory (recordCounted w) going s memory map
 
 unfoldable pub askedMap : Progress → Asked → List ℕ → List ℕ → List ℕ → List ℕ
+askedMap w asked.More s memory map = map
 askedMap w (asked.Stop stop) s memory map = map
 askedMap w (asked.Make making) s memory map = mapMade making s map
 askedMap w (asked.Go going) s memory map = goingMap (recordCounted w) going s memory map
 
--- what is kept, how much of the script was used and of the output written, and whether the script stops
+-- what is kept, how much of the script was used and of the output written, and how the script goes on
 unfoldable pub askedSaid : Progress → Asked → List ℕ → List ℕ → List ℕ → Said
+askedSaid w asked.More s memory map = untouched w Waits
 askedSaid w (asked.Stop stop) s memory map = ended w (length (stopText stop))
 askedSaid w (asked.Make making) s memory map = makeSaid w making (cardMade making s memory map .card) (cardMade making s memory map .making)
 askedSaid w (asked.Go going) s memory map = goingSaid (recordCounted w) going s memory map
 
--- room for the longest line: an output without it is left alone, and the script stops
+-- room for the longest line: an output without it is left alone
 abbrev pub roomy : ℕ
 roomy = 131136
 
@@ -90,4 +94,4 @@ unfoldable pub mapAfter : Progress → List ℕ → List ℕ → List ℕ → �
 mapAfter w s memory map room = unless (leb roomy room) map (askedMap w (askedOf (w .made) s) s memory map)
 
 unfoldable pub saidOf : Progress → List ℕ → List ℕ → List ℕ → ℕ → Said
-saidOf w s memory map room = unless (leb roomy room) (ended w 0) (askedSaid w (askedOf (w .made) s) s memory map)
+saidOf w s memory map room = unless (leb roomy room) (untouched w NoRoom) (askedSaid w (askedOf (w .made) s) s memory map)

@@ -1,7 +1,7 @@
 -- The calls of the wire, kinds 0B to 0D: "0B, 0C and 0D concern no card, so they never give 12, whatever 09 lends".
 -- Assumes nothing.
 use mathlib.Core.List.{List, []}
-use Prim.Native.Nat.{ℕ, _+_}
+use Prim.Native.Nat.{ℕ}
 use lib.ListN.{take, drop}
 use Rattle.base.specs.Output.{laid}
 use Rattle.base.specs.declared.Written.{Written}
@@ -42,8 +42,3 @@ abbrev pub wireText : ℕ → Wiring → List ℕ → List ℕ
 wireText count (Frame index argument room) s = writeFrameText count index argument (blank room)
 wireText count (Block n room) s = writeBlockText count (take n (drop 3 s)) (blank room)
 wireText count (Check n) s = checkedText count (checkedOf (take n (drop 3 s)))
-
-abbrev pub usedWiring : Wiring → ℕ
-usedWiring (Frame index argument room) = 7
-usedWiring (Block n room) = n + 5
-usedWiring (Check n) = n + 3

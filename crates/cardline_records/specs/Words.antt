@@ -1,4 +1,4 @@
--- The words that the bench's lines alone have.
+-- The words that only lines of `cardline` have.
 -- Assumes nothing.
 use mathlib.Core.List.{List}
 use Prim.Native.Nat.{ℕ}

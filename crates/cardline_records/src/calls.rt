@@ -3,12 +3,12 @@
 // Offers: `called`.
 use crate::Progress;
 use crate::Said;
-use crate::progress::goes_on;
-use crate::progress::with_card;
-use crate::text::refused;
-use crate::text::refused_call;
-use crate::text::say_number;
-use crate::text::say_word;
+use crate::lines::refused;
+use crate::lines::refused_call;
+use crate::lines::say_number;
+use crate::lines::say_word;
+use crate::results::goes_on;
+use crate::results::with_card;
 use base::Written;
 use base::fill;
 use base::least;
@@ -19,15 +19,16 @@ use card::Stepped;
 use card_record::Registers;
 use cardline_script::Calling;
 use command::Sent;
+use text::lines::say;
 use text::parts::part;
-use text::text::say;
 ghost use mathlib.Core.Path.{_≡_};
 ghost use Prim.Native.Nat.{_+_, _*_, _≤_, _<_};
 ghost use lib.ListN.{length};
-ghost use Rattle.cardline_records.specs.Calls.{stepLent, memoryLent, mapLent, outputLent, shownText, sentText, frameText, takenText, blockText, replyText, callText, callLeft, callSaid, calledBy, inputOf, roomOf, usedBy};
+ghost use Rattle.cardline_records.specs.Calls.{stepLent, memoryLent, mapLent, outputLent, shownText, sentText, frameText, takenText, blockText, replyText, callText, callLeft, callSaid, calledBy, inputOf, roomOf};
+ghost use Rattle.cardline_script.specs.Whole.{usedBy};
 ghost use Rattle.text.specs.Writing.{Wrote};
 
-// A call of the card, lent so much of each buffer.
+// A call of the card, through the socket, lent so much of each buffer.
 fn lent_step(
     progress: Progress,
     call: Call,
@@ -43,7 +44,7 @@ fn lent_step(
 {
     let k = least(progress.lent.memory as usize, memory.len());
     let j = least(progress.lent.map as usize, map.len());
-    card::step(
+    socket::step_in_place(
         progress.card,
         call,
         input,
@@ -125,7 +126,7 @@ fn reply_line(
 {
     let outcome = reply.outcome;
     match call {
-        Call::Frame => frame_line(count, registers, reply, out),
+        Call::Frame { wins: _ } => frame_line(count, registers, reply, out),
         Call::BlockIn => taken_line(count, outcome, out),
         Call::BlockOut => block_line(count, outcome, output, out),
         Call::WorkDone => say_word(count, b"done", out),
@@ -184,7 +185,7 @@ fn called_by(calling: Calling) -> Call
     ensures { λ r. ⌜ r ≡ calledBy calling ⌝ }
 {
     match calling {
-        Calling::Frame(_) => Call::Frame,
+        Calling::Frame(_) => Call::Frame { wins: true },
         Calling::BlockIn(_) => Call::BlockIn,
         Calling::BlockOut(_) => Call::BlockOut,
         Calling::WorkDone => Call::WorkDone,

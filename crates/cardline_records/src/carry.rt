@@ -6,29 +6,28 @@ use crate::Said;
 use crate::calls::called;
 use crate::looks::looked;
 use crate::make::make;
-use crate::progress::counted;
-use crate::progress::ends;
+use crate::results::counted;
+use crate::results::ends;
+use crate::results::left_alone;
 use crate::wires::wired;
 use cardline_script::Asked;
 use cardline_script::Going;
 use cardline_script::Stop;
-use text::text::plain;
+use playing::Then;
+use text::lines::plain;
 ghost use mathlib.Core.Path.{_≡_};
 ghost use Prim.Native.Nat.{_≤_};
 ghost use lib.ListN.{length};
 ghost use Rattle.cardline_records.specs.Record.{stopText, goingText, goingMemory, goingMap, goingSaid, askedText, askedMemory, askedMap, askedSaid};
 ghost use Rattle.cardline_records.specs.Progress.{ended};
-ghost use Rattle.text.specs.Writing.{Wrote};
+ghost use Rattle.text.specs.Writing.{Put, Wrote};
 
 fn stop_line(stop: Stop, out: &mut [u8]) -> usize
-    requires { ⌜ 64 ≤ length (now out) ⌝ }
-    ensures { λ r. ⌜ Wrote (now (out .entry)) (now (out .exit)) 0 r (stopText stop) ⌝ }
+    ensures { λ r. ⌜ Put (now (out .entry)) (now (out .exit)) 0 r (stopText stop) ⌝ }
 {
     match stop {
-        Stop::Ended => 0,
         Stop::NoCard => plain(b"no card", out),
         Stop::BadKind => plain(b"bad kind", out),
-        Stop::Cut => plain(b"cut", out),
         Stop::TooBig => plain(b"too big", out),
     }
 }
@@ -69,6 +68,7 @@ pub fn obey(
     ensures text { λ r. ⌜ Wrote (now (out .entry)) (now (out .exit)) 0 (r .wrote) (askedText progress asked (now (script .entry)) (now (memory .entry)) (now (map .entry))) ⌝ }
 {
     match asked {
+        Asked::More => left_alone(progress, Then::Waits),
         Asked::Stop(stop) => stopped(progress, stop, out),
         Asked::Make(making) => make(progress, making, script, memory, map, out),
         Asked::Go(going) => carry(counted(progress), going, script, memory, map, out),

@@ -3,31 +3,30 @@
 // Offers: `looked`.
 use crate::Progress;
 use crate::Said;
-use crate::progress::goes_on;
-use crate::progress::with_lent;
-use crate::text::say_word;
+use crate::lines::say_word;
+use crate::results::goes_on;
+use crate::results::with_lent;
 use card_record::Link;
 use cardline_script::Looking;
 use cardline_script::Sizes;
 use status::Errors;
+use text::lines::ending;
+use text::lines::head;
+use text::lines::hexed;
+use text::lines::number;
+use text::lines::say;
 use text::parts::part;
-use text::text::ending;
-use text::text::head;
-use text::text::hexed;
-use text::text::number;
-use text::text::say;
 ghost use mathlib.Core.Path.{_≡_};
-ghost use Prim.Native.Nat.{_+_, _≤_};
+ghost use Prim.Native.Nat.{_≤_, _<_};
 ghost use lib.ListN.{length};
 ghost use Rattle.status.specs.Status.{flag};
-ghost use Rattle.cardline_records.specs.Looks.{linkText, flagsText, cardText, memoryText, lookText, poked, mapLooked, lentLooked, worldLooked, usedLooked};
-ghost use Rattle.cardline_records.specs.Progress.{goneOn};
-ghost use Rattle.text.specs.Writing.{Wrote};
+ghost use Rattle.cardline_records.specs.Looks.{linkText, flagsText, cardText, memoryText, lookText, poked, mapLooked, lentLooked, worldLooked};
+ghost use Rattle.cardline_records.specs.Progress.{goneOn, ownMap};
+ghost use Rattle.cardline_script.specs.Whole.{usedLooked};
+ghost use Rattle.text.specs.Writing.{Put, Wrote};
 
 fn link_text(link: Link, out: &mut [u8], at: usize) -> usize
-    requires { ⌜ at + 31 ≤ length (now out) ⌝ }
-    ensures text { λ r. ⌜ Wrote (now (out .entry)) (now (out .exit)) at r (linkText link) ⌝ }
-    ensures within { λ r. ⌜ r ≤ at + 31 ⌝ }
+    ensures { λ r. ⌜ Put (now (out .entry)) (now (out .exit)) at r (linkText link) ⌝ }
 {
     let state = link.state;
     let column = states::column_of(state);
@@ -45,9 +44,7 @@ fn flag(is: bool) -> u64
 }
 
 fn flags_text(locked: bool, errors: Errors, out: &mut [u8], at: usize) -> usize
-    requires { ⌜ at + 30 ≤ length (now out) ⌝ }
-    ensures text { λ r. ⌜ Wrote (now (out .entry)) (now (out .exit)) at r (flagsText locked errors) ⌝ }
-    ensures within { λ r. ⌜ r ≤ at + 30 ⌝ }
+    ensures { λ r. ⌜ Put (now (out .entry)) (now (out .exit)) at r (flagsText locked errors) ⌝ }
 {
     let a = number(flag(locked), out, at);
     let bits = status::pending(errors);
@@ -60,6 +57,14 @@ fn flags_text(locked: bool, errors: Errors, out: &mut [u8], at: usize) -> usize
     hexed(&four, out, a)
 }
 
+// The card's own map.
+fn own_map(progress: Progress, map: &[u8]) -> &[u8]
+    ensures entries { λ r. ⌜ now r ≡ ownMap progress (now (map .entry)) ⌝ }
+    ensures few { λ r. ⌜ length (now r) < 256 ⌝ }
+{
+    part(map, 0, progress.own.map as usize)
+}
+
 fn card_line(progress: Progress, map: &[u8], out: &mut [u8]) -> usize
     requires { ⌜ 131136 ≤ length (now out) ⌝ }
     ensures { λ r. ⌜ Wrote (now (out .entry)) (now (out .exit)) 0 r (cardText progress (now (map .entry))) ⌝ }
@@ -67,7 +72,7 @@ fn card_line(progress: Progress, map: &[u8], out: &mut [u8]) -> usize
     let a = head(progress.count, b"card", out);
     let b = link_text(progress.card.link, out, a);
     let c = flags_text(progress.card.lock.locked, progress.card.link.errors, out, b);
-    let entries = part(map, 0, progress.own.map as usize);
+    let entries = own_map(progress, map);
     ending(entries, out, c)
 }
 

@@ -3,8 +3,9 @@
 // Offers: `make`.
 use crate::Progress;
 use crate::Said;
-use crate::progress::ends;
-use crate::progress::goes_on;
+use crate::results::ends;
+use crate::results::goes_on;
+use base::copy;
 use base::fill;
 use base::least;
 use card_record::Card;
@@ -12,10 +13,9 @@ use card_record::Made;
 use cardline_script::Making;
 use cardline_script::Sizes;
 use cardline_script::numbers::four;
-use text::parts::front;
+use text::lines::plain;
+use text::lines::refused_by;
 use text::parts::part;
-use text::text::plain;
-use text::text::refused_by;
 ghost use mathlib.Core.Path.{_≡_};
 ghost use Prim.Native.Nat.{_≤_};
 ghost use lib.ListN.{length};
@@ -36,7 +36,7 @@ fn register(script: &[u8], at: usize) -> [u8; 16]
 {
     let mut bytes = [0u8; 16];
     let given = part(script, at, 16);
-    front(given, &mut bytes);
+    copy(given, &mut bytes, 0);
     bytes
 }
 
@@ -60,7 +60,7 @@ fn make_card(making: Making, script: &[u8], memory: &mut [u8], map: &mut [u8]) -
 {
     fill_front(making.memory as usize, making.fill, memory);
     let given = part(script, 6, making.map as usize);
-    front(given, map);
+    copy(given, map, 0);
     let own = part(memory, 0, making.memory as usize);
     let entries = part(map, 0, making.map as usize);
     made_of(making, script, own, entries)

@@ -4,22 +4,23 @@
 use crate::Progress;
 use crate::Said;
 use crate::calls::space;
-use crate::progress::goes_on;
-use crate::text::refused;
-use crate::text::refused_call;
-use crate::text::say_word;
+use crate::lines::refused;
+use crate::lines::refused_call;
+use crate::lines::say_word;
+use crate::results::goes_on;
 use base::Written;
 use base::fill;
 use cardline_script::Wiring;
+use text::lines::say;
 use text::parts::part;
-use text::text::say;
 use wire::Checked;
 ghost use mathlib.Core.Path.{_≡_};
 ghost use Prim.Native.Nat.{_+_, _*_, _≤_};
 ghost use lib.ListN.{length};
 ghost use Rattle.cardline_records.specs.Calls.{blank};
-ghost use Rattle.cardline_records.specs.Wires.{writtenText, writeFrameText, writeBlockText, checkedText, wireText, usedWiring};
+ghost use Rattle.cardline_records.specs.Wires.{writtenText, writeFrameText, writeBlockText, checkedText, wireText};
 ghost use Rattle.cardline_records.specs.Progress.{goneOn};
+ghost use Rattle.cardline_script.specs.Whole.{usedWiring};
 ghost use Rattle.text.specs.Writing.{Wrote};
 
 // What a writer answered, with the whole output that it was lent.

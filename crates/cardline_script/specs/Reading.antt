@@ -8,11 +8,11 @@ use lib.Dec.{eqb, leb}
 use lib.ListN.{length, getD}
 use Rattle.base.specs.Choice.{pick, unless}
 use Rattle.cardline_script.specs.declared.Asked.{Asked}
-use Rattle.cardline_script.specs.declared.Asked.the-variants.{Stop, Make, Go}
+use Rattle.cardline_script.specs.declared.Asked.the-variants.{More, Stop, Make, Go}
 use Rattle.cardline_script.specs.declared.Calling.the-variants.{Frame, BlockIn, BlockOut, WorkDone, PowerOn}
 use Rattle.cardline_script.specs.declared.Going.the-variants.{Call, Look, Wire}
 use Rattle.cardline_script.specs.declared.Looking.the-variants.{Card, Memory, Lend, Poke}
-use Rattle.cardline_script.specs.declared.Stop.the-variants.{Ended, NoCard, BadKind, Cut, TooBig}
+use Rattle.cardline_script.specs.declared.Stop.the-variants.{NoCard, BadKind, TooBig}
 use Rattle.cardline_script.specs.declared.Wiring.the-variants.{Frame as WireFrame, Block, Check}
 
 -- the byte at a place, and the numbers of two, three and four bytes from it on
@@ -28,9 +28,9 @@ three s at = two s at * 256 + byteAt s (at + 2)
 unfoldable pub four : List ℕ → ℕ → ℕ
 four s at = two s at * 65536 + byteAt s (at + 2) * 256 + byteAt s (at + 3)
 
--- "A short body prints `cut` and stops": what is asked for where the script has n bytes
+-- what is asked for where n bytes are there. Where the body is short, more bytes are: "A short body prints `cut` and stops", if none come
 abbrev pub complete : ℕ → List ℕ → Asked → Asked
-complete n s then = unless (leb n (length s)) (Stop Cut) then
+complete n s then = unless (leb n (length s)) More then
 
 -- "an L or O of two bytes over 4,096 .. prints `too big` and stops"
 abbrev pub notTooBig : ℕ → Asked → Asked
@@ -115,5 +115,5 @@ moreAsked kind s =
 -- "An empty script prints nothing. A first record of another kind than 01 prints `no card` and stops"
 unfoldable pub askedOf : Bool → List ℕ → Asked
 askedOf made s =
-    pick (eqb (length s) 0) (Stop Ended)
+    pick (eqb (length s) 0) More
     (pick made (moreAsked (byteAt s 0) s) (unless (eqb (byteAt s 0) 0x01) (Stop NoCard) (makeAsked s)))

@@ -19,7 +19,7 @@ fn complete(n: usize, script: &[u8], then: Asked) -> Asked
     ensures { λ r. ⌜ r ≡ complete n (now (script .entry)) then ⌝ }
 {
     if script.len() < n {
-        return Asked::Stop(Stop::Cut);
+        return Asked::More;
     }
     then
 }

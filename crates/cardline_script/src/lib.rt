@@ -28,10 +28,8 @@ pub struct Sizes {
 
 // Why a script goes no further.
 pub enum Stop {
-    Ended,
     NoCard,
     BadKind,
-    Cut,
     TooBig,
 }
 
@@ -74,8 +72,9 @@ pub enum Going {
     Wire(Wiring),
 }
 
-// What a record asks for.
+// What a record asks for: more bytes, where it is not whole yet.
 pub enum Asked {
+    More,
     Stop(Stop),
     Make(Making),
     Go(Going),
@@ -138,7 +137,7 @@ pub fn read(made: bool, script: &[u8]) -> Asked
     ensures answer { λ r. ⌜ r ≡ askedOf made (now (script .entry)) ⌝ }
 {
     if script.len() == 0 {
-        return Asked::Stop(Stop::Ended);
+        return Asked::More;
     }
     let kind = byte(script, 0);
     if made {

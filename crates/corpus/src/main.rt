@@ -1,7 +1,8 @@
 // Corpus: the scripts of data/, under a heading each: those of bus/ are played as busline plays them,
 // the others, of card/, as cardline does. Some are written by hand, the others are random; stdout is
 // what the model wrote for all of them, and `tests/corpus` makes it again.
-use text::parts::part;
+mod bus_script;
+mod card_script;
 
 fn main() {
     let n = os::arg_count();
@@ -20,11 +21,10 @@ fn script(i: usize) {
 
 fn play(i: usize, bytes: &mut [u8]) {
     let n = program_io::named(i, bytes);
-    let script = part(bytes, 0, n);
     if for_bus(i) {
-        busline_player::play(script);
+        bus_script::play(bytes, n);
     } else {
-        cardline_player::play(script);
+        card_script::play(bytes, n);
     }
 }
 

@@ -1,32 +1,29 @@
--- Wrong answers that the promises rule out, each refuted at a sample: a call's answer is the definition, so a call that gave the wrong answer
--- would make the two equal.
---   past-the-end    a place past the end of a script of 4 bytes, for a record of 2 at place 3
---   not-behind      the place of the record itself
---   more-than-held  a line of 5 bytes handed over whole from an output of 3
---   none-handed     nothing handed over of a line that the output holds
---   capped          a text of 3 bytes counted as the largest number
+-- Wrong answers that the promises of this crate rule out, by number.
+--   past-the-buffer   bytes told of behind the end of the buffer
+--   none-told         no byte more, told as bytes
+--   kept-lost         bytes told of that end before those that were kept
+--   more-than-held    more handed over than the output holds
+--   none-handed       nothing handed over
 -- Assumes nothing.
 use mathlib.Core.Path.{_≡_}
-use mathlib.Core.List.{List}
-use Prim.Native.Nat.{ℕ, _+_, min}
+use Prim.Native.Nat.{ℕ, min}
 use native.Mathlib.Omega.{arith}
-use lib.ListN.{length, replicate}
-use Rattle.program_io.specs.Handing.{handedOver}
+use Rattle.program_io.specs.Reading.{Behind}
+use Rattle.program_io.specs.declared.Got.the-variants.{Bytes}
 
-abbrev three : List ℕ
-three = replicate 3 0
+-- ---- a read
+past-the-buffer : Behind 0 4 (Bytes 5) → ⊥
+past-the-buffer e = omega (arith, e .1)
 
-past-the-end : min (3 + 2) 4 ≡ 5 → ⊥
-past-the-end e = omega arith
+none-told : Behind 2 4 (Bytes 2) → ⊥
+none-told e = omega (arith, e .0)
 
-not-behind : min (1 + 2) 4 ≡ 1 → ⊥
-not-behind e = omega arith
+kept-lost : Behind 3 4 (Bytes 1) → ⊥
+kept-lost e = omega (arith, e .0)
 
-more-than-held : min 5 (length three) ≡ 5 → ⊥
-more-than-held e = omega arith
+-- ---- what is handed to the write call
+more-than-held : _≡_ {A = ℕ} (min 9 4) 9 → ⊥
+more-than-held e = let z : _≡_ {A = ℕ} 4 9 = e in omega arith
 
-none-handed : min 2 (length three) ≡ 0 → ⊥
-none-handed e = omega arith
-
-capped : handedOver three ≡ 18446744073709551615 → ⊥
-capped e = omega arith
+none-handed : _≡_ {A = ℕ} (min 3 4) 0 → ⊥
+none-handed e = let z : _≡_ {A = ℕ} 3 0 = e in omega arith

@@ -1,40 +1,80 @@
-// What the programs that play scripts share: a script read from standard input, or from a file that
-// an argument names; the place behind a record; a line handed over to standard output. No contract
-// can say what is read or written: what a script prints is said in `cardline_records` and `busline_records`, and specs/ has
-// how many bytes of it are handed over.
+// What the programs share: bytes read as they come, text handed to the write call,
+// and a script in hex from a file that an argument names. A read or a write that fails is said on
+// standard error, in words. No contract can say what is read or written: what a script prints is
+// promised in `cardline_records` and `busline_records`.
 //
-// A script in a file is text: pairs of hex digits; `#` begins a comment, up to the line's end; what
-// is neither stands between bytes.
-//
-// Offers: `input`, `named`; `behind`, `show`.
+// Offers: `Got`, `more`, `all`; `Handed`, `show`; `named`.
+mod hex;
+
 use base::least;
-use libc::STDIN_FILENO;
+use hex::Place;
+use hex::Wrong;
+use hex::decode;
+use libc::STDERR_FILENO;
 use libc::STDOUT_FILENO;
 use text::parts::part;
 ghost use mathlib.Core.Path.{_≡_};
-ghost use Prim.Native.Nat.{_+_, _≤_, min};
+ghost use Prim.Native.Nat.{_≤_, min};
 ghost use lib.ListN.{length};
+ghost use Rattle.program_io.specs.Reading.{Behind};
 
-// A script from standard input: how many bytes. One that the buffer can't hold would be taken for a
-// whole one, so it is told of, and none of it is given.
-pub fn input(bytes: &mut [u8]) -> usize
-    ensures within { λ r. ⌜ r ≤ length (now (bytes .entry)) ⌝ }
-{
-    let n = io::read_full(STDIN_FILENO, bytes);
-    let mut more = [0u8; 1];
-    if 0 < io::read_full(STDIN_FILENO, &mut more) {
-        io::write_all(STDOUT_FILENO, b"the script is too long\n");
-        return 0;
-    }
-    least(n, bytes.len())
+// What a read gave: so many bytes are at hand now; the input has ended; or it can't be read.
+pub enum Got {
+    Bytes(usize),
+    End,
+    Failed,
 }
 
-// A script from the file that an argument names, under a heading: how many bytes.
+// More bytes of a file that is told of by a name, behind the first `kept` of a buffer. Where the
+// buffer is full that is an end, so a buffer holds more than is ever kept.
+pub fn more(file: i32, name: &[u8], buffer: &mut [u8], kept: usize) -> Got
+    ensures answer { λ r. ⌜ Behind kept (length (now (buffer .entry))) r ⌝ }
+{
+    let from = least(kept, buffer.len());
+    let got = libc::read(file, &mut buffer[from..]);
+    if got < 0 {
+        os::fail(name);
+        return Got::Failed;
+    }
+    let n = least(io::count(got, buffer), buffer.len() - from);
+    if n == 0 {
+        return Got::End;
+    }
+    Got::Bytes(from + n)
+}
+
+// How many bytes were handed to the write call, and whether it wrote them.
+pub struct Handed {
+    pub bytes: usize,
+    pub written: bool,
+}
+
+// The bytes at the front of `out`, handed to the call that writes to standard output.
+pub fn show(out: &[u8], n: usize) -> Handed
+    ensures answer { λ r. ⌜ r .bytes ≡ min n (length (now (out .entry))) ⌝ }
+{
+    let text = part(out, 0, n);
+    let written = io::write_all(STDOUT_FILENO, text);
+    if !written {
+        os::fail(b"standard output");
+    }
+    Handed {
+        bytes: least(n, out.len()),
+        written,
+    }
+}
+
+// A script in hex from the file that an argument names, under a heading: how many bytes it is. One
+// that can't be read, or is no hex text, is told of and none of it given.
 pub fn named(i: usize, bytes: &mut [u8]) -> usize
     ensures within { λ r. ⌜ r ≤ length (now (bytes .entry)) ⌝ }
 {
     let mut name = [0u8; 64];
     let n = os::arg(i, &mut name);
+    if os::errno() != 0 {
+        os::fail(b"argument");
+        return 0;
+    }
     io::write_all(STDOUT_FILENO, b"== ");
     io::write_all(STDOUT_FILENO, &name[..n]);
     io::write_all(STDOUT_FILENO, b"\n");
@@ -43,98 +83,78 @@ pub fn named(i: usize, bytes: &mut [u8]) -> usize
         os::fail(&name[..n]);
         return 0;
     }
-    let k = read(file, bytes);
+    let k = read(file, &name[..n], bytes);
     libc::close(file);
-    least(k, bytes.len())
+    k
 }
 
-fn read(file: i32, bytes: &mut [u8]) -> usize {
+fn read(file: i32, name: &[u8], bytes: &mut [u8]) -> usize
+    ensures within { λ r. ⌜ r ≤ length (now (bytes .entry)) ⌝ }
+{
     let mut text = io::large_buffer();
-    let n = io::read_full(file, &mut text);
-    decode(&text[..n], bytes)
+    let n = all(file, name, &mut text);
+    let place = decode(part(&text, 0, n), bytes);
+    told(place, name)
 }
 
-// The place behind a record that used so many bytes, within the script.
-pub fn behind(at: usize, used: usize, length: usize) -> usize
-    ensures answer { λ r. ⌜ r ≡ min (at + used) length ⌝ }
+// A whole file, at the front of a text: how many bytes. Of one that can't be read, or has no end
+// within the text, none are given, and that is said: a part would be taken for the whole.
+pub fn all(file: i32, name: &[u8], text: &mut [u8]) -> usize
+    ensures within { λ r. ⌜ r ≤ length (now (text .entry)) ⌝ }
 {
-    if length <= at {
-        return length;
+    let mut kept: usize = 0;
+    let mut turns = u64::MAX;
+    while turns > 0 {
+        let got = more(file, name, text, kept);
+        match got {
+            Got::Bytes(n) => {
+                kept = least(n, text.len());
+            }
+            Got::End => return within(file, name, kept, text.len()),
+            Got::Failed => return 0,
+        }
+        turns -= 1;
     }
-    if length - at <= used {
-        return length;
-    }
-    at + used
+    kept
 }
 
-// The bytes at the front of `out`, written to standard output: how many were handed over.
-pub fn show(out: &[u8], n: usize) -> usize
-    ensures answer { λ r. ⌜ r ≡ min n (length (now (out .entry))) ⌝ }
+// The bytes of a file that has ended, or fills a text: then it may not have one more.
+fn within(file: i32, name: &[u8], kept: usize, room: usize) -> usize
+    ensures { λ r. ⌜ r ≤ kept ⌝ }
 {
-    let text = part(out, 0, n);
-    io::write_all(STDOUT_FILENO, text);
-    least(n, out.len())
-}
-
-// How far a text is read: the bytes that it gave, the digit that waits for its second, or 16, and
-// whether a comment goes on.
-struct Decoded {
-    count: usize,
-    high: u8,
-    comment: bool,
-}
-
-// What a hex digit stands for, or 16 for what is none.
-fn digit(b: u8) -> u8 {
-    match b {
-        b'0'..=b'9' => b - b'0',
-        b'A'..=b'F' => b - b'A' + 10,
-        _ => 16,
+    if kept < room {
+        return kept;
+    }
+    let mut one = [0u8; 1];
+    let got = more(file, name, &mut one, 0);
+    match got {
+        Got::Bytes(_) => {
+            say_wrong(name, b"too long\n");
+            0
+        }
+        Got::End => kept,
+        Got::Failed => 0,
     }
 }
 
-// One character more.
-fn step(before: Decoded, b: u8, out: &mut [u8]) -> Decoded {
-    if before.comment {
-        return Decoded {
-            comment: b != b'\n',
-            ..before
-        };
+// How many bytes a text gave: none where something is wrong with it, which is said.
+fn told(place: Place, name: &[u8]) -> usize
+    ensures { λ r. ⌜ r ≤ place .count ⌝ }
+{
+    let wrong = place.wrong;
+    match wrong {
+        Wrong::Nothing => return place.count,
+        Wrong::OddDigits => say_wrong(name, b"an odd number of hex digits in line "),
+        Wrong::NoDigit => say_wrong(name, b"no hex digit in line "),
+        Wrong::TooLong => say_wrong(name, b"too long at line "),
     }
-    let d = digit(b);
-    if 15 < d {
-        return Decoded {
-            comment: b == b'#',
-            ..before
-        };
-    }
-    let n = before.count;
-    let high = before.high;
-    if 15 < high {
-        return Decoded { high: d, ..before };
-    }
-    if out.len() <= n {
-        return before;
-    }
-    out[n] = high * 16 + d;
-    Decoded {
-        count: n + 1,
-        high: 16,
-        comment: false,
-    }
+    io::print_decimal(STDERR_FILENO, place.line);
+    io::write_all(STDERR_FILENO, b"\n");
+    0
 }
 
-// The bytes of a text at the front of `out`: how many.
-fn decode(text: &[u8], out: &mut [u8]) -> usize {
-    let mut decoded = Decoded {
-        count: 0,
-        high: 16,
-        comment: false,
-    };
-    let mut i: usize = 0;
-    while i < text.len() {
-        decoded = step(decoded, text[i], out);
-        i += 1;
-    }
-    decoded.count
+fn say_wrong(name: &[u8], what: &[u8]) {
+    io::write_all(STDERR_FILENO, name);
+    io::write_all(STDERR_FILENO, b": ");
+    io::write_all(STDERR_FILENO, what);
 }

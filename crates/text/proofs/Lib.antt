@@ -1,4 +1,5 @@
 pub mod Digits
+pub mod Lengths
 pub mod Pairs
 pub mod Shown
 pub mod Writing

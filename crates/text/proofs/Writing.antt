@@ -1,13 +1,12 @@
 -- Laws of texts written into an output.
 --   part-take      the bytes from a place on, as many as there are
---   fronted-take   the first n of a copy, where n is as many as there are or as there is room for
 --   fits-front     what has room goes to the front whole
+--   put-both       one text after the other is the text of both, whether there was room for it or not
+--   put-none       no text
+--   put-as         the same text, said otherwise
+--   put-whole      where there is room for it a text is written whole
 --   wrote-part     a text at the front of the output's part from a place on is written from that place on
---   wrote-front    so is what a copy puts there, and
---   wrote-laid     what a call lays there whose answer is `fits`
---   written-length, written-never    such a call answers the text's length, and no refusal
---   decimal-short  the digits of a number are at most 20
---   wrote-both     one text after the other
+--   wrote-both     one whole text after the other
 --   wrote-none     no text
 --   wrote-as       the same text, said otherwise
 --   wrote-at       a text that is written from the front on stands at the front
@@ -15,20 +14,17 @@
 -- Assumes nothing.
 use mathlib.Core.Path.{_≡_, refl, sym, ap, ap₂, _∙_, subst}
 use mathlib.Core.Bool.{true, false}
-use mathlib.Core.List.{List, [], _∷_, _++_, append-assoc, append-nil}
-use Prim.Native.Nat.{ℕ, _+_, _-_, _/_, _%_, _≤_, _<_, zero, suc, min}
+use mathlib.Core.List.{List, [], _++_, append-assoc, append-nil}
+use Prim.Native.Nat.{ℕ, _+_, _-_, _≤_, _<_, min}
 use native.Mathlib.Omega.{arith}
 use lib.ListN.{length, take, drop, length-append, length-drop, drop-of-length-le, take-append-drop}
-use lib.Seq.{take-all, take-nil, take-at, drop-at, drop-drop, length-take-le}
-use borrow.Author.Tests.{leb-true, leb-false, le-leb}
-use lib.Dec.{leb, ltb}
+use lib.Seq.{take-all, take-nil, take-at, drop-at, drop-drop, length-take-le, take-append-le, take-append-add, paste, paste-zero}
+use borrow.Author.Tests.{leb-true, leb-false}
+use lib.Dec.{leb}
 use Rattle.base.proofs.Cases.{cases}
-use Rattle.base.specs.Output.{fits, laid, bytesOf}
-use Rattle.base.specs.declared.Refusal.{Refusal}
-use Rattle.base.specs.declared.Written.{Written}
-use Rattle.base.specs.declared.Written.the-variants.{Bytes, Refused}
-use Rattle.text.specs.Text.{digitsOf, decimalOf}
-use Rattle.text.specs.Writing.{Wrote, fronted}
+use Rattle.base.proofs.Copying.{copied-front, copied-whole, copied-length}
+use Rattle.base.specs.Output.{copied}
+use Rattle.text.specs.Writing.{Put, Wrote}
 
 -- a is the place or the end, k how many
 pub part-take : (s : List ℕ) (from n a k : ℕ) → a ≡ min from (length s) → k ≡ min n (length s - a) → take (a + k - a) (drop a s) ≡ take n (drop from s)
@@ -50,21 +46,73 @@ part-take s from n a k ea ek =
     ap (take k) (drop-of-length-le s {i = a} (omega arith)) ∙ take-nil k
     ∙ sym (ap (take n) (drop-of-length-le s {i = from} (omega arith)) ∙ take-nil n)))
 
-pub fronted-take : (s o : List ℕ) (n : ℕ) → n ≡ min (length s) (length o) → take n s ++ drop n o ≡ fronted s o
-fronted-take s o n e =
-    cases (leb (length s) (length o))
-    (λ (t : leb (length s) (length o) ≡ true).
-    let h : length s ≤ length o = leb-true (length s) (length o) t in
-    let k : n ≡ length s = omega arith in
-    ap₂ (λ (x y : List ℕ). x ++ y) (take-all n s (omega arith) ∙ sym (take-all (length o) s h)) (ap (λ (m : ℕ). drop m o) k))
-    (λ (t : leb (length s) (length o) ≡ false).
-    let h : length o < length s = leb-false (length s) (length o) t in
-    let k : n ≡ length o = omega arith in
-    ap₂ (λ (x y : List ℕ). x ++ y) (ap (λ (m : ℕ). take m s) k)
-    (drop-of-length-le o {i = n} (omega arith) ∙ sym (drop-of-length-le o {i = length s} (omega arith))))
+pub fits-front : (s o : List ℕ) → length s ≤ length o → copied s o 0 ≡ s ++ drop (length s) o
+fits-front s o h = copied-front s o ∙ ap (λ (x : List ℕ). x ++ drop (length s) o) (take-all (length o) s h)
 
-pub fits-front : (s o : List ℕ) → length s ≤ length o → fronted s o ≡ s ++ drop (length s) o
-fits-front s o h = ap (λ (x : List ℕ). x ++ drop (length s) o) (take-all (length o) s h)
+-- a text written over an output from a place on, and another from the place behind it
+module _ (o a b : List ℕ) (at : ℕ) where
+  whole-then : at + length a ≤ length o → copied b (copied a o at) (at + length a) ≡ copied (a ++ b) o at
+  whole-then h =
+      let f : List ℕ = take at o ++ a in
+      let p : ℕ = at + length a in
+      let once : copied a o at ≡ f ++ drop p o =
+      copied-whole a o at h ∙ ap (λ (l : List ℕ). take at o ++ l ++ drop p o) (take-all (length a) a (omega arith))
+      in
+      let n : length f ≡ p = length-append (take at o) a ∙ omega (arith, length-take-le at o (omega arith)) in
+      let l = copied-length a o at in
+      let j : ℕ = min (length b) (length o - p) in
+      let ej : min (length b) (length (copied a o at) - p) ≡ j = omega arith in
+      let ek : min (length (a ++ b)) (length o - at) ≡ length a + j = omega (arith, length-append a b) in
+      let e : p + j ≡ at + (length a + j) = omega arith in
+      ap (paste (copied a o at) p b) ej
+      ∙ ap (λ (x : List ℕ). take p x ++ take j b ++ drop (p + j) x) once
+      ∙ ap₂ (λ (x y : List ℕ). x ++ take j b ++ y) (take-at f (drop p o) p n)
+      (sym (drop-drop j p (f ++ drop p o)) ∙ ap (drop j) (drop-at f (drop p o) p n) ∙ drop-drop j p o)
+      ∙ ap₂ (λ (x y : List ℕ). x ++ y) (append-assoc (take at o) a (take j b) ∙ ap (λ (x : List ℕ). take at o ++ x) (sym (take-append-add a b j)))
+      (ap (λ (m : ℕ). drop m o) e)
+      ∙ ap (paste o at (a ++ b)) (sym ek)
+
+  cut-then : length o < at + length a → copied b (copied a o at) (length o) ≡ copied (a ++ b) o at
+  cut-then h =
+      let l = copied-length a o at in
+      let m : ℕ = length o - at in
+      let none : min (length b) (length (copied a o at) - length o) ≡ 0 = omega arith in
+      let ea : min (length a) (length o - at) ≡ m = omega arith in
+      let eb : min (length (a ++ b)) (length o - at) ≡ m = omega (arith, length-append a b) in
+      ap (paste (copied a o at) (length o) b) none
+      ∙ sym (paste-zero (copied a o at) (length o) b)
+      ∙ ap (paste o at a) ea
+      ∙ ap (λ (x : List ℕ). take at o ++ x ++ drop (at + m) o) (sym (take-append-le m a b (omega arith)))
+      ∙ ap (paste o at (a ++ b)) (sym eb)
+
+  then : (p : ℕ) → p ≡ min (at + length a) (length o) → copied b (copied a o at) p ≡ copied (a ++ b) o at
+  then p e =
+      cases (leb (at + length a) (length o))
+      (λ (t : leb (at + length a) (length o) ≡ true).
+      let h = leb-true (at + length a) (length o) t in
+      let k : p ≡ at + length a = omega arith in
+      ap (copied b (copied a o at)) k ∙ whole-then h)
+      (λ (t : leb (at + length a) (length o) ≡ false).
+      let h = leb-false (at + length a) (length o) t in
+      let k : p ≡ length o = omega arith in
+      ap (copied b (copied a o at)) k ∙ cut-then h)
+
+pub put-both : {o p q : List ℕ} {a b c : ℕ} {t u : List ℕ} → Put o p a b t → Put p q b c u → Put o q a c (t ++ u)
+put-both {o} {p} {q} {a} {b} {c} {t} {u} x y =
+    let l = copied-length t o a in
+    let e = ap length (x .output) in
+    record {
+      place = omega (arith, x .place, y .place, length-append t u);
+      output = y .output ∙ ap (λ (m : List ℕ). copied u m b) (x .output) ∙ then o t u a b (x .place);
+    }
+
+pub put-none : (o : List ℕ) (at r : ℕ) → r ≡ min at (length o) → Put o o at r []
+put-none o at r e =
+    let z : min 0 (length o - at) ≡ 0 = omega arith in
+    record { place = omega arith; output = paste-zero o at [] ∙ ap (paste o at []) (sym z) }
+
+pub put-as : {o p : List ℕ} {a b : ℕ} {t u : List ℕ} → t ≡ u → Put o p a b t → Put o p a b u
+put-as {o} {p} {a} {b} e w = subst (λ (l : List ℕ). Put o p a b l) e w
 
 -- o is the output before and q after
 pub wrote-part : (o q t : List ℕ) (at k r : ℕ) → at + length t ≤ length o → length o - at ≤ k → r ≡ at + length t
@@ -86,57 +134,17 @@ wrote-part o q t at k r h hk er e =
       same = ap length p ∙ length-append f (drop r o) ∙ omega (arith, length-drop r o);
     }
 
-part-all : (o : List ℕ) (at k : ℕ) → length o - at ≤ k → take k (drop at o) ≡ drop at o
-part-all o at k h = take-all k (drop at o) (omega (arith, length-drop at o))
-
-part-room : (o : List ℕ) (at k n : ℕ) → length o - at ≤ k → at + n ≤ length o → n ≤ length (take k (drop at o))
-part-room o at k n hk h = rw (part-all o at k hk) (omega (arith, length-drop at o))
-
--- p is the part after a call that was lent it
-pub wrote-front : (o q p t : List ℕ) (at k r : ℕ) → at + length t ≤ length o → length o - at ≤ k → r ≡ at + length t
-    → p ≡ fronted t (take k (drop at o)) → q ≡ take at o ++ (p ++ drop k (drop at o)) → Wrote o q at r t
-wrote-front o q p t at k r h hk er ep eq =
-    wrote-part o q t at k r h hk er
-    (eq
-    ∙ ap (λ (l : List ℕ). take at o ++ (l ++ drop k (drop at o)))
-    (ep ∙ fits-front t (take k (drop at o)) (part-room o at k (length t) hk h) ∙ ap (λ (l : List ℕ). t ++ drop (length t) l) (part-all o at k hk)))
-
-pub fits-room : (t o : List ℕ) (w : Written) → length t ≤ length o → w ≡ fits t o → w ≡ Bytes (length t)
-fits-room t o w h e = e ∙ simp (le-leb (length t) (length o) h)
-
-module _ (o t : List ℕ) (at k : ℕ) (w : Written) (h : at + length t ≤ length o) (hk : length o - at ≤ k) (ew : w ≡ fits t (take k (drop at o))) where
-  written : w ≡ Bytes (length t)
-  written = fits-room t (take k (drop at o)) w (part-room o at k (length t) hk h) ew
-
-  pub written-length : (n : ℕ) → w ≡ Bytes n → n ≡ length t
-  written-length n e = ap bytesOf (sym e ∙ written)
-
-  pub written-never : (refusal : Refusal) → w ≡ Refused refusal → ⊥
-  written-never refusal e =
-      let p : Refused refusal ≡ Bytes (length t) = sym e ∙ written in
-      let z : _≡_ {A = ℕ} 0 1 = cc in
-      omega arith
-
-  pub wrote-laid : (q p : List ℕ) (r : ℕ) → r ≡ at + length t → p ≡ laid w t (take k (drop at o)) → q ≡ take at o ++ (p ++ drop k (drop at o))
-      → Wrote o q at r t
-  wrote-laid q p r er ep eq =
-      wrote-part o q t at k r h hk er
-      (eq
-      ∙ ap (λ (l : List ℕ). take at o ++ (l ++ drop k (drop at o)))
-      (ep ∙ ap (λ (x : Written). laid x t (take k (drop at o))) written ∙ ap (λ (l : List ℕ). t ++ drop (length t) l) (part-all o at k hk)))
-
--- the digits of a number are at most 20
-digits-short : (k n : ℕ) → length (digitsOf k n) ≤ k
-unfolding digitsOf
-digits-short zero n = omega arith
-digits-short (suc k) n =
-    cases (ltb n 10)
-    (λ (t : ltb n 10 ≡ true). rw t (omega arith))
-    (λ (t : ltb n 10 ≡ false). rw t (rw (length-append (digitsOf k (n / 10)) ((48 + n % 10) ∷ [])) (omega (arith, digits-short k (n / 10)))))
-
-pub decimal-short : (n : ℕ) → length (decimalOf n) ≤ 20
-unfolding decimalOf
-decimal-short n = digits-short 20 n
+pub put-whole : {o p : List ℕ} {a r : ℕ} {t : List ℕ} → a + length t ≤ length o → Put o p a r t → Wrote o p a r t
+put-whole {o} {p} {a} {r} {t} h w =
+    let none : drop (length o) (drop a o) ≡ [] = drop-of-length-le (drop a o) {i = length o} (omega (arith, length-drop a o)) in
+    let place = w .place in
+    wrote-part o p t a (length o) r h (omega arith) (omega arith)
+    (w .output ∙ copied-whole t o a h
+    ∙ ap (λ (l : List ℕ). take a o ++ l ++ drop (a + length t) o) (take-all (length t) t (omega arith))
+    ∙ append-assoc (take a o) t (drop (a + length t) o)
+    ∙ ap (λ (l : List ℕ). take a o ++ (t ++ l)) (sym (drop-drop (length t) a o))
+    ∙ ap (λ (l : List ℕ). take a o ++ l) (sym (append-nil (t ++ drop (length t) (drop a o))))
+    ∙ ap (λ (l : List ℕ). take a o ++ ((t ++ drop (length t) (drop a o)) ++ l)) (sym none))
 
 pub wrote-both : {o p q : List ℕ} {a b c : ℕ} {t u : List ℕ} → Wrote o p a b t → Wrote p q b c u → Wrote o q a c (t ++ u)
 wrote-both {o} {p} {q} {a} {b} {c} {t} {u} x y =

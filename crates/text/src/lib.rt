@@ -1,14 +1,14 @@
-// The text that programs print, written into a lent output. `hex` and `decimal` have no `requires`:
-// an output that is too short is refused 6 and left as it was. What whole lines are put together of
-// is in text.rt, parts of bytes in parts.rt.
+// The text that programs print, written into a lent output. No call has a `requires`: where an output
+// is too short, `hex` and `decimal` are refused 6 and leave it as it was, and what lines are put
+// together of, in lines.rt, writes as much as there is room for. parts.rt has parts of bytes.
 //
-// Offers: `hex`, `decimal`; `parts`, `text`.
+// Offers: `hex`, `decimal`; `lines`, `parts`.
+pub mod lines;
 pub mod parts;
-pub mod text;
 
 use base::Refusal;
 use base::Written;
-use parts::front;
+use base::copy;
 ghost use mathlib.Core.Path.{_≡_};
 ghost use Prim.Native.Nat.{_<_, _≤_};
 ghost use lib.ListN.{drop};
@@ -35,16 +35,7 @@ pub fn hex(bytes: &[u8], out: &mut [u8]) -> Written
     if out.len() / 2 < bytes.len() {
         return Written::Refused(Refusal::OutputShort);
     }
-    let mut i: usize = 0;
-    while i < bytes.len() {
-        let b = bytes[i];
-        let high = digit(b / 16);
-        let low = digit(b % 16);
-        out[i * 2] = high;
-        out[i * 2 + 1] = low;
-        i += 1;
-    }
-    Written::Bytes(i * 2)
+    Written::Bytes(lines::hex(bytes, out, 0))
 }
 
 // Decimal digits at the end of a text that has room for those of any number, from a place on.
@@ -79,7 +70,7 @@ fn put(bytes: &[u8], out: &mut [u8]) -> Written
     if out.len() < bytes.len() {
         return Written::Refused(Refusal::OutputShort);
     }
-    front(bytes, out);
+    copy(bytes, out, 0);
     Written::Bytes(bytes.len())
 }
 

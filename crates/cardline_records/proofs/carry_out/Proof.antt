@@ -11,7 +11,7 @@ returns : tie.Need-returns
 unfolding saidOf memoryAfter mapAfter textOf
 returns c =
     let t = lt-leb _ _ (c .before .if1 .taken) in
-    (simp (t, c .ends .ensures), (simp t, (simp t, simp (t, c .ends .ensures))))
+    (simp (t, c .left-alone .ensures), (simp t, (simp t, simp (t, c .left-alone .ensures))))
 
 returns-2 : tie.Need-returns-2
 unfolding saidOf memoryAfter mapAfter textOf

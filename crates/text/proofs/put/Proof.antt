@@ -20,7 +20,7 @@ returns-2 c =
     let a = c .before .before .before .before .before .before .before .args in
     let s = now (a .bytes) in
     let o = now (a .out) in
-    written s o (length s) refl _ (omega arith) (c .before .before .front .ensures ∙ fits-front s o (omega arith))
+    written s o (length s) refl _ (omega arith) (c .before .before .«copy» .ensures ∙ fits-front s o (omega arith))
 
 pub put-spec : {M : Type 1} → statement M
 put-spec = tie.close (tie.spec returns (λ c κs. search needs) (λ c. search needs) returns-2)

@@ -2,16 +2,21 @@
 -- Assumes nothing.
 use mathlib.Core.Path.{ap, _∙_}
 use Prim.Native.Nat.{ℕ}
-use Rattle.text.proofs.Writing.{wrote-line}
-use Rattle.busline_records.specs.Record.{ended}
+use native.Mathlib.Omega.{arith}
 use borrow.Author.Needs.{needs}
+use Rattle.playing.specs.declared.Then.the-variants.{Stops}
+use Rattle.text.proofs.Writing.{put-whole, wrote-line}
+use Rattle.busline_records.specs.Record.{leftAt}
 use Rattle.busline_records.proofs.carry.stopped.Statement.{statement}
 use Rattle.busline_records.proofs.carry.stopped.Tie as tie
 
 returns : tie.Need-returns
 returns c =
-    let w = c .before .before .before .stop-line .ensures in
-    (c .ends .ensures ∙ ap (λ (n : ℕ). ended (c .before .before .before .before .before .before .args .progress) n) (wrote-line w), rw (c .ends .ensures) w)
+    let at-line = c .before .before .before in
+    let l = at-line .bad-kind-line .ensures in
+    let w = put-whole (omega (arith, l .short)) (l .put) in
+    let e = c .left .ensures in
+    (e ∙ ap (λ (n : ℕ). leftAt (at-line .before .before .before .args .progress) 0 n Stops) (wrote-line w), (rw e w, rw e (omega (arith, l .short, wrote-line w))))
 
 pub stopped-spec : {M : Type 1} → statement M
 stopped-spec =

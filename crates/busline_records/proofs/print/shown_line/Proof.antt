@@ -1,17 +1,22 @@
 -- `busline_records::print::shown_line` meets its contract: each return is told what the line shows; the bus answers 17 bytes.
 -- Assumes nothing.
 use Rattle.busline_records.specs.Printing.{shownText}
+use native.Mathlib.Omega.{arith}
 use borrow.Author.Needs.{needs}
+use Rattle.busline_records.proofs.Lines.{silent-line, sent-line}
 use Rattle.busline_records.proofs.print.shown_line.Statement.{statement}
 use Rattle.busline_records.proofs.print.shown_line.Tie as tie
 
 returns : tie.Need-returns
 unfolding shownText
-returns c = rw (c .before .before .before .before .before .before .before .before .shown .given .1, ← c .before .before .before .before .before .part .ensures .0) (c .before .before .say .ensures)
+returns c =
+    let at-part = c .before .before .before .before .before in
+    rw (at-part .before .before .before .shown .given .1, ← at-part .part .ensures .0)
+    (sent-line _ _ (omega (arith, at-part .part .ensures .1 .1)) (c .before .before .say .ensures))
 
 returns-2 : tie.Need-returns-2
 unfolding shownText
-returns-2 c = rw (c .before .before .before .before .before .before .enum-told .given .1) (c .before .before .say2 .ensures)
+returns-2 c = rw (c .before .before .before .before .before .before .enum-told .given .1) (silent-line _ (c .before .before .say2 .ensures))
 
 returns-3 : tie.Need-returns-3
 unfolding shownText

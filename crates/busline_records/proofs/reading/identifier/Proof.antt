@@ -7,7 +7,7 @@ use lib.ListN.{replicate}
 use Rattle.busline_records.proofs.Laws.{closed}
 use Rattle.busline_records.specs.Reading.{cidBody}
 use denote.Ref.{now}
-use Rattle.text.specs.Writing.{fronted}
+use Rattle.base.specs.Output.{copied}
 use borrow.Author.Needs.{needs}
 use Rattle.busline_records.proofs.reading.identifier.Statement.{statement}
 use Rattle.busline_records.proofs.reading.identifier.Tie as tie
@@ -15,10 +15,10 @@ use Rattle.busline_records.proofs.reading.identifier.Tie as tie
 returns : tie.Need-returns
 returns c =
     let at-last-byte = c .before .before .before .before in
-    let at-front = at-last-byte .before .before .before in
-    let at-part = at-front .before .before in
+    let at-copy = at-last-byte .before .before .before in
+    let at-part = at-copy .before .before in
     let at-start = at-part .before .before in
-    closed (cidBody (now (at-start .args .script))) _ _ _ (at-front .front .ensures ∙ ap (λ (l : List ℕ). fronted l (replicate 15 0)) (at-part .part .ensures .0)) (c .before .front2 .ensures)
+    closed (cidBody (now (at-start .args .script))) _ _ _ (at-copy .«copy» .ensures ∙ ap (λ (l : List ℕ). copied l (replicate 15 0) 0) (at-part .part .ensures .0)) (c .before .«copy2» .ensures)
     (at-last-byte .last-byte .ensures)
 
 pub identifier-spec : {M : Type 1} → statement M

@@ -16,7 +16,7 @@ returns-2 c = simp (le-leb _ _ (c .before .before .before .if1 .left), eq-eqb _ 
 
 returns-3 : tie.Need-returns-3
 unfolding askedOf
-returns-3 c = simp (le-leb _ _ (c .before .before .before .before .if1 .left), ne-eqb _ _ (c .before .before .if2 .left), eq-eqb _ _ (c .before .if3 .taken), c .whole2 .ensures)
+returns-3 c = simp (le-leb _ _ (c .before .before .before .before .if1 .left), ne-eqb _ _ (c .before .before .if2 .left), eq-eqb _ _ (c .before .if3 .taken), c .complete2 .ensures)
 
 returns-4 : tie.Need-returns-4
 unfolding askedOf

@@ -1,24 +1,17 @@
 -- `cardline_records::carry::stop_line` meets its contract: each return is told why the script stops.
 -- Assumes nothing.
 use borrow.Author.Needs.{needs}
-use Rattle.text.proofs.Writing.{wrote-none}
 use Rattle.cardline_records.proofs.carry.stop_line.Statement.{statement}
 use Rattle.cardline_records.proofs.carry.stop_line.Tie as tie
 
 returns : tie.Need-returns
-returns c = rw (c .enum-told .given .1) (wrote-none _)
+returns c = rw (c .before .before .before .before .before .enum-told .given .1) (c .before .before .plain .ensures)
 
 returns-2 : tie.Need-returns-2
-returns-2 c = rw (c .before .before .before .before .before .enum-told2 .given .1) (c .before .before .plain .ensures)
+returns-2 c = rw (c .before .before .before .before .before .enum-told2 .given .1) (c .before .before .plain2 .ensures)
 
 returns-3 : tie.Need-returns-3
-returns-3 c = rw (c .before .before .before .before .before .enum-told3 .given .1) (c .before .before .plain2 .ensures)
-
-returns-4 : tie.Need-returns-4
-returns-4 c = rw (c .before .before .before .before .before .enum-told4 .given .1) (c .before .before .plain3 .ensures)
-
-returns-5 : tie.Need-returns-5
-returns-5 c = rw (c .before .before .before .before .before .enum-told5 .given .1) (c .before .before .plain4 .ensures)
+returns-3 c = rw (c .before .before .before .before .before .enum-told3 .given .1) (c .before .before .plain3 .ensures)
 
 pub stop-line-spec : {M : Type 1} → statement M
 stop-line-spec =
@@ -26,7 +19,6 @@ stop-line-spec =
     (tie.spec
     (λ c. search needs)
     (λ c. search needs)
-    (λ c. search needs)
     (λ c κs. search needs)
     (λ c. search needs)
     (λ c. search needs)
@@ -35,14 +27,8 @@ stop-line-spec =
     (λ c. search needs)
     (λ c κs. search needs)
     (λ c. search needs)
-    (λ c. search needs)
-    (λ c κs. search needs)
     returns
     (λ c. search needs)
     returns-2
     (λ c. search needs)
-    returns-3
-    (λ c. search needs)
-    returns-4
-    (λ c. search needs)
-    returns-5)
+    returns-3)

@@ -2,16 +2,19 @@
 -- Assumes nothing.
 use mathlib.Core.Path.{ap, _∙_}
 use Prim.Native.Nat.{ℕ}
+use native.Mathlib.Omega.{arith}
 use borrow.Author.Needs.{needs}
-use Rattle.text.proofs.Writing.{wrote-line}
+use Rattle.cardline_records.proofs.Lengths.{stop-short}
+use Rattle.text.proofs.Writing.{put-whole, wrote-line}
 use Rattle.cardline_records.specs.Progress.{ended}
 use Rattle.cardline_records.proofs.carry.stopped.Statement.{statement}
 use Rattle.cardline_records.proofs.carry.stopped.Tie as tie
 
 returns : tie.Need-returns
 returns c =
-    let w = c .before .before .before .stop-line .ensures in
-    (c .ends .ensures ∙ ap (λ (n : ℕ). ended (c .before .before .before .before .before .before .args .progress) n) (wrote-line w), rw (c .ends .ensures) w)
+    let at-start = c .before .before .before .before .before .before in
+    let w = put-whole (omega (arith, stop-short (at-start .args .stop), at-start .pre)) (c .before .before .before .stop-line .ensures) in
+    (c .ends .ensures ∙ ap (λ (n : ℕ). ended (at-start .args .progress) n) (wrote-line w), rw (c .ends .ensures) w)
 
 pub stopped-spec : {M : Type 1} → statement M
 stopped-spec = tie.close (tie.spec (λ c κs. search needs) (λ c κs. search needs) (λ c. search needs) returns)

@@ -2,9 +2,8 @@
 -- Assumes nothing.
 use mathlib.Core.Path.{ap}
 use Prim.Native.Nat.{ℕ}
-use native.Mathlib.Omega.{arith}
 use borrow.Author.Needs.{needs}
-use Rattle.text.proofs.Writing.{wrote-as, wrote-both}
+use Rattle.text.proofs.Writing.{put-as, put-both}
 use Rattle.text.specs.Lines.{numberText, hexText}
 use Rattle.cardline_records.specs.Looks.{flagsText, fourBytes}
 use Rattle.cardline_records.proofs.looks.flags_text.Statement.{statement}
@@ -17,10 +16,8 @@ returns c =
     let at-number = at-pending .before .before .before in
     let at-flag = at-number .before .before in
     let n = at-number .number .ensures in
-    let h = c .before .before .hexed .ensures in (
-      wrote-both (wrote-as (ap numberText (at-flag .flag .ensures)) (n .0)) (wrote-as (ap (λ (b : ℕ). hexText (fourBytes b)) (at-pending .pending .ensures)) (h .0)),
-      omega (arith, n .1, h .1),
-    )
+    let h = c .before .before .hexed .ensures in
+    put-both (put-as (ap numberText (at-flag .flag .ensures)) n) (put-as (ap (λ (b : ℕ). hexText (fourBytes b)) (at-pending .pending .ensures)) h)
 
 pub flags-text-spec : {M : Type 1} → statement M
 flags-text-spec =

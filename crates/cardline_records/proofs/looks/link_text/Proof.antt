@@ -1,9 +1,8 @@
 -- `cardline_records::looks::link_text` meets its contract: three texts, one after the other.
 -- Assumes nothing.
 use mathlib.Core.Path.{ap, _∙_}
-use native.Mathlib.Omega.{arith}
 use borrow.Author.Needs.{needs}
-use Rattle.text.proofs.Writing.{wrote-as, wrote-both}
+use Rattle.text.proofs.Writing.{put-as, put-both}
 use Rattle.text.specs.Lines.{numberText}
 use Rattle.cardline_records.specs.Looks.{linkText}
 use Rattle.states.specs.States.{columnNumber}
@@ -21,7 +20,7 @@ returns c =
     let n = at-number2 .number2 .ensures in
     let a = at-hexed .hexed .ensures in
     let l = c .before .before .hexed2 .ensures in
-    (wrote-both (wrote-both (wrote-as (ap numberText e) (n .0)) (a .0)) (l .0), omega (arith, n .1, a .1, l .1))
+    put-both (put-both (put-as (ap numberText e) n) a) l
 
 pub link-text-spec : {M : Type 1} → statement M
 link-text-spec =
