@@ -94,8 +94,8 @@ void perform_card(const struct calls *calls, enum work work)
         calls->work_done(numbers, card.cid, card.csd, card.password);
         break;
     case FRAME:
-        refusal = calls->frame(numbers, card.cid, card.csd, card.password, frames[work - CARD_FIRST], 6, memory, size, map, size / GROUP, answer,
-                               &bytes_out);
+        refusal = calls->frame(numbers, card.cid, card.csd, card.password, 1, frames[work - CARD_FIRST], 6, memory, size, map, size / GROUP,
+                               answer, &bytes_out);
         break;
     case BLOCK_IN:
         if (work == LOCK_REQUEST)

@@ -72,18 +72,20 @@ static void frames(const struct calls *ours, const struct calls *theirs)
     static const u32 ARGUMENTS[] = {0,     1,     511,   512,        513,        1024,       2047,       2048,       2049,       4096,
                                     8191,  8192,  12288, 15872,      15873,      16383,      16384,      0x00010000, 0x0001FFFF, 0x00020000,
                                     65535, 20480, 14337, 0x00FF8000, 0xFF000000, 0x80000000, 0xFFFFFFFF};
+    static const u32 WON[] = {1, 1, 0, 2, 256, 0x80000000};
     for (u32 state = 0; state < STATES; state++)
         for (u32 index = 0; index < 64; index++)
             for (usize a = 0; a < COUNT(ARGUMENTS); a++)
                 for (int turn = 0; turn < 12; turn++) {
                     usize length = next() % 32 ? 6 : next() % 9;
                     usize size = next() % 64 ? SIZE : SIZE - next() % 8194, groups = next() % 64 ? GROUPS : next() % 3;
+                    u32 won = ANY(WON);
                     begin(state);
                     theirs->write_command((u8)index, ARGUMENTS[a], input, 6);
                     if (next() % 16 == 0)
                         input[next() % 6] ^= 1 << next() % 8;
-                    one.refusal = ours->frame(PARTS(one), input, length, one.memory, size, one.map, groups, one.answer, &one.bytes);
-                    two.refusal = theirs->frame(PARTS(two), input, length, two.memory, size, two.map, groups, two.answer, &two.bytes);
+                    one.refusal = ours->frame(PARTS(one), won, input, length, one.memory, size, one.map, groups, one.answer, &one.bytes);
+                    two.refusal = theirs->frame(PARTS(two), won, input, length, two.memory, size, two.map, groups, two.answer, &two.bytes);
                     end("a frame at a card", theirs, state << 8 | index);
                 }
 }

@@ -51,8 +51,8 @@ struct calls {
                usize secret_length, const u8 *memory, usize size, const u8 *map, usize groups);
     void (*power_on)(struct mmc_numbers *card, const u8 *cid, const u8 *csd, const u8 *password);
     void (*work_done)(struct mmc_numbers *card, const u8 *cid, const u8 *csd, const u8 *password);
-    u8 (*frame)(struct mmc_numbers *card, const u8 *cid, const u8 *csd, const u8 *password, const u8 *frame, usize length, u8 *memory, usize size,
-                u8 *map, usize groups, u8 *answer, usize *sent);
+    u8 (*frame)(struct mmc_numbers *card, const u8 *cid, const u8 *csd, const u8 *password, u32 won, const u8 *frame, usize length, u8 *memory,
+                usize size, u8 *map, usize groups, u8 *answer, usize *sent);
     u8 (*block_in)(struct mmc_numbers *card, const u8 *cid, const u8 *csd, u8 *password, const u8 *block, usize length, u8 *memory, usize size,
                    u8 *map, usize groups);
     u8 (*block_out)(struct mmc_numbers *card, const u8 *cid, const u8 *csd, const u8 *password, const u8 *memory, usize size, const u8 *map,

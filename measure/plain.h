@@ -17,8 +17,8 @@ u8 PLAIN(make)(struct mmc_numbers *card, u8 *cid, u8 *csd, u8 *password, const u
                usize secret_length, const u8 *memory, usize size, const u8 *map, usize groups);
 void PLAIN(power_on)(struct mmc_numbers *card, const u8 *cid, const u8 *csd, const u8 *password);
 void PLAIN(work_done)(struct mmc_numbers *card, const u8 *cid, const u8 *csd, const u8 *password);
-u8 PLAIN(frame)(struct mmc_numbers *card, const u8 *cid, const u8 *csd, const u8 *password, const u8 *frame, usize length, u8 *memory, usize size,
-                u8 *map, usize groups, u8 *answer, usize *sent);
+u8 PLAIN(frame)(struct mmc_numbers *card, const u8 *cid, const u8 *csd, const u8 *password, u32 won, const u8 *frame, usize length, u8 *memory,
+                usize size, u8 *map, usize groups, u8 *answer, usize *sent);
 u8 PLAIN(block_in)(struct mmc_numbers *card, const u8 *cid, const u8 *csd, u8 *password, const u8 *block, usize length, u8 *memory, usize size,
                    u8 *map, usize groups);
 u8 PLAIN(block_out)(struct mmc_numbers *card, const u8 *cid, const u8 *csd, const u8 *password, const u8 *memory, usize size, const u8 *map,

@@ -59,7 +59,7 @@ static usize tell(struct bus *bus, u8 index, u32 argument, u8 *line)
         u8 sent[LINE];
         if (low != 0 && card->numbers.state == READY && order(card->cid, low) != 0)
             continue;
-        usize n = command(&card->numbers, card->cid, card->csd, index, argument, 0, 0, 0, 0, sent);
+        usize n = command(&card->numbers, card->cid, card->csd, 1, index, argument, 0, 0, 0, 0, sent);
         for (usize b = 0; b < n; b++)
             line[b] &= sent[b];
         if (n > length)

@@ -61,8 +61,8 @@ void PLAIN(work_done)(struct mmc_numbers *card, const u8 *cid, const u8 *csd, co
         card->state = STBY;
 }
 
-u8 PLAIN(frame)(struct mmc_numbers *card, const u8 *cid, const u8 *csd, const u8 *password, const u8 *frame, usize length, u8 *memory, usize size,
-                u8 *map, usize groups, u8 *answer, usize *sent)
+u8 PLAIN(frame)(struct mmc_numbers *card, const u8 *cid, const u8 *csd, const u8 *password, u32 won, const u8 *frame, usize length, u8 *memory,
+                usize size, u8 *map, usize groups, u8 *answer, usize *sent)
 {
     u8 index;
     u32 argument;
@@ -73,6 +73,6 @@ u8 PLAIN(frame)(struct mmc_numbers *card, const u8 *cid, const u8 *csd, const u8
     u8 refusal = PLAIN(read_frame)(frame, length, &index, &argument);
     if (refusal != 0)
         return refuse(card, refusal, refusal == FRAME_CRC && card->state != INA ? COM_CRC_ERROR : 0);
-    *sent = command(card, cid, csd, index, argument, memory, size, map, groups, answer);
+    *sent = command(card, cid, csd, won, index, argument, memory, size, map, groups, answer);
     return 0;
 }

@@ -211,8 +211,8 @@ static usize voltages(struct mmc_numbers *card, u32 window, u8 *out)
 }
 
 /* What the card sends is written to `out`: how many bytes. */
-static usize command(struct mmc_numbers *card, const u8 *cid, const u8 *csd, u8 index, u32 argument, u8 *memory, usize size, u8 *map, usize groups,
-                     u8 *out)
+static usize command(struct mmc_numbers *card, const u8 *cid, const u8 *csd, u32 won, u8 index, u32 argument, u8 *memory, usize size, u8 *map,
+                     usize groups, u8 *out)
 {
     u32 state = card->state;
     int own = argument >> 16 == card->address;
@@ -225,7 +225,7 @@ static usize command(struct mmc_numbers *card, const u8 *cid, const u8 *csd, u8 
     case 1:
         return state == IDLE ? voltages(card, argument & 0xFFFFFF, out) : 0;
     case 2:
-        if (state != READY)
+        if (state != READY || won == 0)
             return 0;
         drop_tags(card);
         card->state = IDENT;

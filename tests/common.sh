@@ -16,7 +16,7 @@ rustc -O --edition 2021 -o "$work/model" tests/model/main.rs
 # are those given, and then those that start a program.
 compare() {
     command -v rt >/dev/null || die 'rt is not on the PATH'
-    said=$(rt check cardline busline vectors 2>&1) || {
+    said=$(rt check cardline busline vectors corpus 2>&1) || {
         printf '%s\n' "$said" >&2
         die 'a program is not proved, or does not write what its stdout has'
     }

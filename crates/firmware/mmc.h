@@ -9,7 +9,11 @@
    comment says.
 
    A call answers 0 where it was carried out, else the number that document 01 gives its refusal; a comment lists the numbers in the order
-   in which they are looked for. A refused call leaves everything as it was but for what its comment says. */
+   in which they are looked for. A refused call leaves everything as it was but for what its comment says.
+
+   Of a card's record a call that is carried out writes all twelve numbers, in the form that `struct mmc_numbers` gives them below. So does a
+   frame that is refused 3, and a block that is refused 16 to 21: these change the record. Any other refusal of a frame or a block leaves the
+   record byte for byte. */
 #ifndef MMC_H
 #define MMC_H
 
@@ -36,7 +40,7 @@ unsigned char mmc_check_block(const unsigned char *block, unsigned long length);
    It belongs to the caller, who lends it to each call. Its bytes may be copied, kept over a loss of power and put back: any bytes stand for
    some card, and every call answers them. A number that is wider than its field counts by its low bits. */
 
-/* `state`, with what a data state waits for. 13 and every number above it is Inactive. */
+/* `state`, with what a data state waits for. 13 and every number above it is Inactive, and is written as 13. */
 enum mmc_state {
     MMC_IDLE = 0,
     MMC_READY = 1,
@@ -54,7 +58,7 @@ enum mmc_state {
     MMC_INA = 13
 };
 
-/* `tags`. Every number above 4 is none. */
+/* `tags`. Every number above 4 is none, and is written as 0. */
 enum mmc_tags {
     MMC_TAGS_NONE = 0,
     MMC_TAGS_SECTOR_START = 1, /* a start alone, sector `first` */
@@ -71,7 +75,7 @@ struct mmc_numbers {
     unsigned int errors;          /* the error bits that wait for the next R1, each in its place of the status */
     unsigned int tags;            /* enum mmc_tags */
     unsigned int first, last;     /* what `tags` carries, else 0 */
-    unsigned int locked;          /* 1 where the card is locked */
+    unsigned int locked;          /* 0 where the card is not locked; any other number is locked, and is written as 1 */
     unsigned int password_length; /* 8 bits; 0 where there is no password */
     unsigned int groups;          /* the size of the memory in groups of 8,192 bytes, 16 bits */
     unsigned int ocr;
@@ -95,7 +99,7 @@ unsigned char mmc_parts_make(struct mmc_numbers *numbers, unsigned char *cid, un
 void mmc_parts_power_on(struct mmc_numbers *numbers, const unsigned char *cid, const unsigned char *csd, const unsigned char *password);
 void mmc_parts_work_done(struct mmc_numbers *numbers, const unsigned char *cid, const unsigned char *csd, const unsigned char *password);
 unsigned char mmc_parts_frame(struct mmc_numbers *numbers, const unsigned char *cid, const unsigned char *csd, const unsigned char *password,
-                              const unsigned char *frame, unsigned long length, unsigned char *memory, unsigned long size,
+                              unsigned int won, const unsigned char *frame, unsigned long length, unsigned char *memory, unsigned long size,
                               unsigned char *map, unsigned long groups, unsigned char *answer, unsigned long *sent);
 unsigned char mmc_parts_block_in(struct mmc_numbers *numbers, const unsigned char *cid, const unsigned char *csd, unsigned char *password,
                                  const unsigned char *block, unsigned long length, unsigned char *memory, unsigned long size,
@@ -133,18 +137,30 @@ static inline void mmc_card_work_done(struct mmc_card *card)
     mmc_parts_work_done(&card->numbers, card->cid, card->csd, card->password);
 }
 
-/* A frame from the line: 12, 1, 2, 3. What the card sends, 0, 6 or 17 bytes, is written to the front of `answer`, which has MMC_ANSWER bytes,
-   and how many to `sent`: 0 where it is silent or the frame is refused. CMD28 and CMD29 change the map, CMD38 the memory.
-   Of the refused ones 3 sets error bit 23, unless the card is Inactive. */
+/* A frame from a line on which the card is alone, so that it wins CMD2: 12, 1, 2, 3. What the card sends, 0, 6 or 17 bytes, is written to the
+   front of `answer`, which has MMC_ANSWER bytes, and how many to `sent`: 0 where it is silent or the frame is refused. CMD28 and CMD29 change the
+   map, CMD38 the memory. Of the refused ones 3 sets error bit 23, unless the card is Inactive. */
 static inline unsigned char mmc_card_frame(struct mmc_card *card, const unsigned char *frame, unsigned long length, unsigned char *memory,
                                            unsigned long size, unsigned char *map, unsigned long groups, unsigned char *answer,
                                            unsigned long *sent)
 {
-    return mmc_parts_frame(&card->numbers, card->cid, card->csd, card->password, frame, length, memory, size, map, groups, answer, sent);
+    return mmc_parts_frame(&card->numbers, card->cid, card->csd, card->password, 1, frame, length, memory, size, map, groups, answer, sent);
+}
+
+/* The same from a line that the unit shares with others. A card in Ready that hears CMD2 sends 3F and its CID, highest bit first, and falls silent
+   where it sends 1 and the line shows 0: the unit does that, and then makes this call. `won` is 0 where it fell silent, and any other number where
+   it sent the whole of it: it won, or shares its CID with whoever did. A card that lost is as it was and sends nothing. No other command looks
+   at `won`. */
+static inline unsigned char mmc_card_frame_on_line(struct mmc_card *card, int won, const unsigned char *frame, unsigned long length,
+                                                   unsigned char *memory, unsigned long size, unsigned char *map, unsigned long groups,
+                                                   unsigned char *answer, unsigned long *sent)
+{
+    return mmc_parts_frame(&card->numbers, card->cid, card->csd, card->password, won != 0, frame, length, memory, size, map, groups, answer, sent);
 }
 
 /* A block from the line, its CRC16 with it: 12, 15, 16, 17, 18, 19 or 20. A write's is stored; a lock request's changes the password or the
-   lock, and a forced erase memory and map. Of the refused ones 16 to 20 set the error bit, and end the wait, as document 01 says. */
+   lock, and a forced erase memory and map. Of the refused ones 16 sets error bit 29, 18 bit 31, 19 bit 26 and 20 bit 24, and 17 sets none. After
+   each of these five CMD24's card and that of a lock request wait no more and are in tran; CMD25's goes on to wait, at the same address. */
 static inline unsigned char mmc_card_block_in(struct mmc_card *card, const unsigned char *block, unsigned long length, unsigned char *memory,
                                               unsigned long size, unsigned char *map, unsigned long groups)
 {
@@ -152,7 +168,7 @@ static inline unsigned char mmc_card_block_in(struct mmc_card *card, const unsig
 }
 
 /* A block for the line, its CRC16 with it, written to the front of `out`: 12, 15, 6, 18, 21. How many bytes it has, at most 2,050, is written to
-   `written`: 0 where it is refused. Of the refused ones 18 sets error bit 31 and 21 error bit 30. */
+   `written`: 0 where it is refused. Of the refused ones 18 sets error bit 31 and 21 error bit 30, and the card is still to send that block. */
 static inline unsigned char mmc_card_block_out(struct mmc_card *card, const unsigned char *memory, unsigned long size, const unsigned char *map,
                                                unsigned long groups, unsigned char *out, unsigned long room, unsigned long *written)
 {

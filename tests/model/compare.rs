@@ -1,19 +1,23 @@
 //! Our programs beside the model: both play a script, and every line is compared.
 
 use crate::bus_bench::BusRecord;
-use crate::program::{Program, LONGEST};
+use crate::dice::Dice;
+use crate::program::Program;
 use crate::script::{Making, Record};
 use crate::{hex, wire, Outcome};
 use std::fs;
-use std::io::Read;
+use std::io::{Read, Write};
 use std::path::{Path, PathBuf};
-use std::process::{Command, Stdio};
+use std::process::{ChildStdin, Command, Stdio};
 use std::sync::mpsc;
 use std::thread;
 use std::time::{Duration, Instant};
 
 /// A program that takes longer for a script hangs.
 const LIMIT: Duration = Duration::from_secs(60);
+
+/// The bytes of a long script. A program that kept it whole would have to say how much it keeps.
+const LONG: usize = 2_097_152 + 1_000;
 
 /// How often progress is told.
 const PAUSE: Duration = Duration::from_secs(5);
@@ -35,16 +39,16 @@ pub fn stored(program: Program) -> Result<Vec<(String, Vec<u8>)>, String> {
     files.iter().map(|file| Ok((file.display().to_string(), hex::script_of(file)?))).collect()
 }
 
-/// The stored scripts, the longest that is played, one that is too long, and random ones.
+/// The stored scripts, a long one, and random ones.
 pub fn run(count: u64, records: usize, first: u64, launcher: &[&str]) -> Outcome {
     for program in [Program::Cardline, Program::Busline] {
         let mut comparison = Comparison::new(program, launcher);
         for (name, script) in stored(program)? {
             comparison.play(&name, &script)?;
         }
-        let longest = longest(program);
-        comparison.play("the longest script", &longest)?;
-        comparison.play("a script that is too long", &[&longest[..], &[0]].concat())?;
+        let long = long(program);
+        comparison.play("a long script", &long)?;
+        comparison.play("a long script in pieces", &long)?;
         for seed in first..first + count {
             comparison.play(&format!("seed {seed}"), &program.generate(seed, records))?;
         }
@@ -53,9 +57,9 @@ pub fn run(count: u64, records: usize, first: u64, launcher: &[&str]) -> Outcome
     Ok(())
 }
 
-/// A script of as many bytes as a program plays: the longest blocks for a card that is then shown
-/// again and again, or identifiers for a bus that is soon full.
-fn longest(program: Program) -> Vec<u8> {
+/// A script of more bytes than a program keeps: the longest blocks for a card that is then shown
+/// again and again, or identifiers for a bus that is soon full, and frames. It ends within a record.
+fn long(program: Program) -> Vec<u8> {
     let register = wire::register(&[0; 15]);
     let (memory_length, map, password) = (8_192, vec![0], Vec::new());
     let making = Making { memory_length, filled_with: 0, map, cid: register, csd: register, ocr: 1, password };
@@ -63,10 +67,11 @@ fn longest(program: Program) -> Vec<u8> {
         Program::Cardline => (Record::Make(making).written(), Record::CheckBlock(vec![0; 4_096]).written(), 0x07),
         Program::Busline => (Vec::new(), BusRecord::Add([0x5A; 15]).written(), 0x02),
     };
-    while script.len() + record.len() <= LONGEST {
+    while script.len() + record.len() <= LONG {
         script.extend(&record);
     }
-    script.resize(LONGEST, rest);
+    script.resize(LONG, rest);
+    script.push(0x02);
     script
 }
 
@@ -104,7 +109,8 @@ impl<'a> Comparison<'a> {
         Ok(())
     }
 
-    /// What our program writes for a script.
+    /// What our program writes for a script: it reads every other one from a pipe, in pieces of any
+    /// length. On standard error it says nothing.
     fn ours(&self, script: &[u8]) -> Result<String, String> {
         let told = |error: std::io::Error| error.to_string();
         fs::write(SCRIPT, script).map_err(told)?;
@@ -113,10 +119,16 @@ impl<'a> Comparison<'a> {
         let mut child = Command::new(first)
             .args(rest)
             .arg(program)
-            .stdin(fs::File::open(SCRIPT).map_err(told)?)
+            .stdin(if self.scripts % 2 == 1 { Stdio::piped() } else { fs::File::open(SCRIPT).map_err(told)?.into() })
             .stdout(Stdio::piped())
+            .stderr(Stdio::piped())
             .spawn()
             .map_err(told)?;
+        if let Some(pipe) = child.stdin.take() {
+            let script = script.to_vec();
+            thread::spawn(move || feed(pipe, &script));
+        }
+        let mut errors = child.stderr.take().ok_or("no standard error")?;
         let mut output = child.stdout.take().ok_or("no output")?;
         let (sender, receiver) = mpsc::channel();
         thread::spawn(move || {
@@ -127,6 +139,11 @@ impl<'a> Comparison<'a> {
             child.kill().map_err(told)?;
             return Err(format!("our program did not end in {} seconds", LIMIT.as_secs()));
         };
+        let mut words = String::new();
+        errors.read_to_string(&mut words).map_err(told)?;
+        if !words.is_empty() {
+            return Err(format!("our program said on standard error: {}", words.trim_end()));
+        }
         let status = child.wait().map_err(told)?;
         if !status.success() {
             return Err(format!("our program ended with an error ({status})"));
@@ -134,12 +151,27 @@ impl<'a> Comparison<'a> {
         String::from_utf8(read.map_err(told)?).map_err(|error| error.to_string())
     }
 
-    /// How far it has come. A record that is played writes one line; those behind a refused make, and
-    /// those of a script that is too long, write none.
+    /// How far it has come. A record that is played writes one line; those behind a refused make write
+    /// none.
     pub fn tell(&self, what: &str) {
         let Comparison { program, scripts, records, lines, .. } = self;
         let seconds = self.began.elapsed().as_secs_f64();
         println!("{}, {what}: {scripts} scripts, {records} records, {lines} lines agree, {seconds:.1} s", program.name());
+    }
+}
+
+/// A script, handed to a program in pieces of any length. One that stops reads no further.
+fn feed(mut pipe: ChildStdin, script: &[u8]) {
+    let mut dice = Dice(script.len() as u64);
+    let mut rest = script;
+    while !rest.is_empty() {
+        let longest = dice.pick(&[2, 16, 5_000]);
+        let length = rest.len().min(1 + dice.below(longest) as usize);
+        let (piece, behind) = rest.split_at(length);
+        if pipe.write_all(piece).is_err() {
+            return;
+        }
+        rest = behind;
     }
 }
 

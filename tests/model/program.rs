@@ -11,9 +11,6 @@ pub enum Program {
     Busline,
 }
 
-/// The longest script that the programs play; docs/DECISIONS.md says what they print for a longer one.
-pub const LONGEST: usize = 2_097_152;
-
 impl Program {
     pub fn named(name: &str) -> Result<Program, String> {
         match name {
@@ -40,9 +37,6 @@ impl Program {
 
     /// All that the program prints for a script: a line for each record that it plays.
     pub fn lines(self, script: &[u8]) -> String {
-        if script.len() > LONGEST {
-            return "the script is too long\n".to_string();
-        }
         let mut lines = String::new();
         let print = |line: &str| {
             lines.push_str(line);

@@ -1,6 +1,6 @@
 pub mod Branch
 pub mod Cases
-pub mod Copy
+pub mod Copying
 pub mod Numbers
 pub mod Output
 pub mod Span

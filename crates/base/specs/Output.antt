@@ -1,9 +1,10 @@
 -- Document 01, "Refusal numbers": what a call leaves in a lent output.
 -- Assumes nothing.
 use mathlib.Core.List.{List, _++_}
-use Prim.Native.Nat.{ℕ}
+use Prim.Native.Nat.{ℕ, _-_, min}
 use lib.Dec.{leb}
 use lib.ListN.{length, drop}
+use lib.Seq.{paste}
 use Rattle.base.specs.Choice.{unless}
 use Rattle.base.specs.Refusals.{by}
 use Rattle.base.specs.declared.Written.{Written}
@@ -22,3 +23,7 @@ laid (Refused r) bytes out = out
 abbrev pub bytesOf : Written → ℕ
 bytesOf (Bytes n) = n
 bytesOf (Refused r) = 0
+
+-- as many of the bytes as there is room for, written over others from a place on; nothing before that place or behind them is written
+abbrev pub copied : List ℕ → List ℕ → ℕ → List ℕ
+copied bytes over at = paste over at bytes (min (length bytes) (length over - at))

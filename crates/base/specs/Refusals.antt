@@ -1,8 +1,10 @@
 -- Document 01, "Refusal numbers".
 -- Assumes nothing.
+use mathlib.Core.Bool.{Bool}
 use mathlib.Core.List.{List, [], _∷_}
-use Prim.Native.Nat.{ℕ, _-_}
-use lib.ListN.{getD}
+use Prim.Native.Nat.{ℕ}
+use lib.Dec.{eqb}
+use Rattle.base.specs.Numbered.{firstWith, InTable, inTable}
 use Rattle.base.specs.declared.Refusal.{Refusal}
 use Rattle.base.specs.declared.Refusal.the-variants.{FrameLength, FrameBits, FrameCrc, Index, PayloadLength, OutputShort, MemorySize, Map, RegisterLastByte, Ocr, PasswordLength, Lent, BusCards, BusIndex, NoBlock, BlockLength, BlockCrc, PastEnd, Protected, LockFailed, BlockCrosses}
 
@@ -51,12 +53,20 @@ numberOf LockFailed = 20
 -- read block crosses 2,048
 numberOf BlockCrosses = 21
 
--- the refusals in the table's order, from number 1 on
+-- the refusals in the table's order
 abbrev pub refusals : List Refusal
 refusals =
     FrameLength ∷ FrameBits ∷ FrameCrc ∷ Index ∷ PayloadLength ∷ OutputShort ∷ MemorySize ∷ Map ∷ RegisterLastByte ∷ Ocr ∷ PasswordLength ∷
     Lent ∷ BusCards ∷ BusIndex ∷ NoBlock ∷ BlockLength ∷ BlockCrc ∷ PastEnd ∷ Protected ∷ LockFailed ∷ BlockCrosses ∷ []
 
--- the refusal of a number, so that rules can speak the table's numbers: `Refused (by 3)`
-abbrev pub by : ℕ → Refusal
-by n = getD refusals (n - 1) FrameLength
+-- the refusal of a number, for what is said over numbers; only where the table has the number does it mean something (`isRefusal`)
+abbrev pub refusalOf : ℕ → Refusal
+refusalOf n = firstWith numberOf n refusals FrameLength
+
+-- whether the table has a number
+abbrev pub isRefusal : ℕ → Bool
+isRefusal n = eqb (numberOf (refusalOf n)) n
+
+-- the refusal of a number, so that rules can speak the table's numbers: `Refused (by 3)`. `by 22` is no refusal, so no rule can give it
+abbrev pub by : (n : ℕ) → InTable Refusal (isRefusal n)
+by n = inTable (isRefusal n) (refusalOf n)

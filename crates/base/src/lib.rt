@@ -1,12 +1,24 @@
 // What every other crate shares: the refusals of document 01, the answer of a call that writes into
-// a lent output, and two small tools. The vocabulary of the contracts is in specs/, the laws that
+// a lent output, and three small tools. The vocabulary of the contracts is in specs/, the laws that
 // proofs share in proofs/.
 //
-// Offers: `Refusal`, `number`, `Written`; `least`, `fill`.
+// Offers: `Refusal`, `number`, `Written`; `SECTOR`, `ERASE_GROUP`, `PROTECTION_GROUP`, `READ_BLOCK`;
+// `least`, `fill`, `copy`.
 ghost use mathlib.Core.Path.{_≡_};
 ghost use Prim.Native.Nat.{min};
 ghost use lib.ListN.{length, replicate};
+ghost use Rattle.base.specs.Output.{copied};
 ghost use Rattle.base.specs.Refusals.{numberOf};
+
+// Document 01, "Memory of one card", in bytes: sector, erase group, protection group and physical
+// read block (specs/Sizes.antt).
+pub const SECTOR: u32 = 512;
+
+pub const ERASE_GROUP: u32 = 4096;
+
+pub const PROTECTION_GROUP: u32 = 8192;
+
+pub const READ_BLOCK: u32 = 2048;
 
 // Document 01, "Refusal numbers": a name for each row of the table, in its order.
 pub enum Refusal {
@@ -83,6 +95,19 @@ pub fn fill(bytes: &mut [u8], value: u8)
     let mut i: usize = 0;
     while i < bytes.len() {
         bytes[i] = value;
+        i += 1;
+    }
+}
+
+// As many of the bytes as there is room for, written over others from a place on.
+pub fn copy(bytes: &[u8], over: &mut [u8], at: usize)
+    ensures over { λ _. ⌜ now (over .exit) ≡ copied (now (bytes .entry)) (now (over .entry)) at ⌝ }
+{
+    let room = over.len() - least(at, over.len());
+    let n = least(bytes.len(), room);
+    let mut i: usize = 0;
+    while i < n {
+        over[at + i] = bytes[i];
         i += 1;
     }
 }

@@ -13,18 +13,20 @@ use native.Mathlib.Omega.{arith}
 use lib.ListN.{length}
 use Rattle.base.proofs.Cases.{cases}
 use Rattle.command.specs.Sending.{sentBytes}
-use Rattle.command.specs.Command.{commandOf}
+use Rattle.command.proofs.Verdict.{lost-unchanged}
+use Rattle.command.specs.Command.{metBy, commandOf}
+use Rattle.command.specs.declared.Commanded.{Commanded}
 use Rattle.command.specs.declared.Sent.{Sent}
 use Rattle.crc.proofs.Bits.{octets-bits, octets-below, length-bits}
 use Rattle.crc.specs.Bits.{bits, octets, Below}
-use Rattle.line.proofs.Arbitration.{wins-shown, someone, contested-length, contested-below}
-use Rattle.line.proofs.Together.{OneVoice, one-voice}
-use Rattle.line.specs.Line.{contested, together}
-use Rattle.record.specs.declared.Card.{Card}
+use Rattle.shared_line.proofs.Arbitration.{wins-shown, someone, contested-length, contested-below}
+use Rattle.shared_line.proofs.Together.{OneVoice, one-voice}
+use Rattle.shared_line.specs.Line.{contested, together}
+use Rattle.card_record.specs.declared.Card.{Card}
 use Rattle.wire.specs.Responses.{r2Frame}
-use Rattle.bus.proofs.Sending.{cid-lost, cid-won}
+use Rattle.bus.proofs.Sending.{cid-won}
 use Rattle.bus.proofs.Winners.{cid-bitwise}
-use Rattle.bus.specs.Bus.{isReady, cidSender, cidBits, winsLine, metWith, commandAt, frameFrom, anyReady, longestOf, frameSender, cidLine, andLine}
+use Rattle.bus.specs.Bus.{isReady, cidSender, cidBits, winsLine, commandAt, frameFrom, anyReady, longestOf, frameSender, cidLine, andLine}
 use Rattle.bus.specs.Contest.{cidOf, Held}
 
 any-ready : (cards : List Card) → anyReady cards ≡ true → (card : Card) × List·Memᴰ card cards × (isReady card ≡ true)
@@ -81,15 +83,15 @@ module _ (cards : List Card) (held : (card : Card) → List·Memᴰ card cards �
   frame-lost : (card : Card) → winsLine cards card ≡ false → frameFrom cards 2 argument card ≡ []
   unfolding frameFrom commandAt sentBytes
   frame-lost card t =
-      ap (λ (w : Bool). sentBytes (card .registers) (commandOf (card .link) (metWith w card) 2 argument .sent)) t
-      ∙ ap (λ (s : Sent). sentBytes (card .registers) s) (cid-lost card argument)
+      ap (λ (w : Bool). sentBytes (card .registers) (commandOf (card .link) (metBy card w) 2 argument .sent)) t
+      ∙ ap (λ (c : Commanded). sentBytes (card .registers) (c .sent)) (lost-unchanged card argument)
 
   frame-won : (card : Card) → List·Memᴰ card cards → winsLine cards card ≡ true → frameFrom cards 2 argument card ≡ voice
   unfolding frameFrom commandAt sentBytes r2Frame
   frame-won card m t =
       let h = held card m in
       let s = winner card m t in
-      ap (λ (w : Bool). sentBytes (card .registers) (commandOf (card .link) (metWith w card) 2 argument .sent)) t
+      ap (λ (w : Bool). sentBytes (card .registers) (commandOf (card .link) (metBy card w) 2 argument .sent)) t
       ∙ ap (λ (x : Sent). sentBytes (card .registers) x) (cid-won card argument (s .0))
       ∙ ap (λ (l : List ℕ). 0x3F ∷ l)
       (sym (octets-bits (cidOf card) (h .1)) ∙ ap (λ (n : ℕ). octets n (bits (cidOf card))) (h .0) ∙ ap (octets 16) (s .1))

@@ -19,7 +19,7 @@ use mir.Syntax.{w8}
 use mir.Val.{Fits}
 use Rattle.crc.proofs.Bits.{below-all}
 use Rattle.crc.specs.Bits.{Below}
-use Rattle.record.specs.declared.Card.{Card}
+use Rattle.card_record.specs.declared.Card.{Card}
 use Rattle.bus.specs.Bus.{countOf, cardsOf, withCards}
 use Rattle.bus.specs.declared.Bus.{Bus}
 

@@ -19,26 +19,26 @@ use lib.ListN.{length, take, drop, getD, set, replicate}
 use lib.Seq.{take-suc, length-take-le}
 use Rattle.base.proofs.Cases.{cases}
 use Rattle.command.specs.Sending.{sentBytes}
-use Rattle.command.specs.Command.{commandOf}
+use Rattle.command.proofs.Verdict.{any-wins}
+use Rattle.command.specs.Command.{metBy, commandOf}
 use Rattle.command.specs.declared.Commanded.{Commanded}
 use Rattle.crc.specs.Bits.{octets, Below}
-use Rattle.line.proofs.Together.{together-is-and}
-use Rattle.line.specs.Bytes.{andedAll}
-use Rattle.line.specs.Line.{together}
-use Rattle.record.specs.Record.{withLink}
-use Rattle.record.specs.declared.Card.{Card}
+use Rattle.shared_line.proofs.Together.{together-is-and}
+use Rattle.shared_line.specs.Bytes.{andedAll}
+use Rattle.shared_line.specs.Line.{together}
+use Rattle.card_record.specs.Record.{withLink}
+use Rattle.card_record.specs.declared.Card.{Card}
 use Rattle.bus.proofs.Cids.{cid-line}
 use Rattle.bus.proofs.Lists.{changed, changed-next, change-turn, first-all, getD-in}
-use Rattle.bus.proofs.Sending.{any-wins}
 use Rattle.bus.proofs.Winners.{holders}
-use Rattle.bus.specs.Bus.{countOf, cardsOf, withCards, winsLine, metWith, commandAt, cardAfter, frameFrom, longestOf, frameSender, cidLine, andLine, lineOf, shownOf, padded}
-use Rattle.bus.specs.Contest.{lowFrom, lowFor, holds, Held, HeldAll}
+use Rattle.bus.specs.Bus.{countOf, cardsOf, withCards, winsLine, commandAt, cardAfter, frameFrom, longestOf, frameSender, cidLine, andLine, lineOf, shownOf, padded}
+use Rattle.bus.specs.Contest.{lowFrom, lowFor, holdsLow, Held, HeldAll}
 use Rattle.bus.specs.Hearing.{quiet, heardOf, heardFrom, turnOf, shownFrom, toldOf}
 use Rattle.bus.specs.declared.Bus.{Bus}
 use Rattle.bus.specs.declared.Framed.{Framed}
 use Rattle.bus.specs.declared.Heard.{Heard}
-use Rattle.line.specs.Lowest.{noLow}
-use Rattle.line.specs.declared.Low.{Low}
+use Rattle.shared_line.specs.Lowest.{noLow}
+use Rattle.shared_line.specs.declared.Low.{Low}
 use Rattle.bus.specs.declared.Shown.{Shown}
 use Rattle.bus.specs.declared.Shown.the-variants.{Line, Silent}
 use Rattle.bus.specs.declared.Turned.{Turned}
@@ -77,18 +77,17 @@ heard-all heard (frame ∷ frames) = let r = heard-all (heardOf heard frame) fra
 -- ---- who wins
 pub turn-right : (bus : Bus) (index argument : ℕ) (low : Low) (card : Card) → low ≡ lowFor bus index → HeldAll bus index
     → List·Memᴰ card (cardsOf bus)
-    → commandOf (card .link) (metWith (holds low card) card) index argument ≡ commandAt (cardsOf bus) index argument card
+    → commandOf (card .link) (metBy card (holdsLow low card)) index argument ≡ commandAt (cardsOf bus) index argument card
 unfolding commandAt lowFor
 turn-right bus index argument low card e held m =
     cases (eqb index 2)
     (λ (t : eqb index 2 ≡ true).
     let all = first-all Held (countOf bus) (bus .cards) (held (eqb-true index 2 t)) in
     let found : low ≡ lowFrom noLow (cardsOf bus) = simp t at e in
-    ap (λ (w : Bool). commandOf (card .link) (metWith w card) index argument)
-    (ap (λ (l : Low). holds l card) found ∙ holders (cardsOf bus) all card m))
+    ap (λ (w : Bool). commandOf (card .link) (metBy card w) index argument)
+    (ap (λ (l : Low). holdsLow l card) found ∙ holders (cardsOf bus) all card m))
     (λ (t : eqb index 2 ≡ false).
-    any-wins (card .link) (card .registers .ocr) (card .registers .groups) (card .lock .locked) (holds low card)
-    (winsLine (cardsOf bus) card) index argument t)
+    any-wins card (holdsLow low card) (winsLine (cardsOf bus) card) index argument t)
 
 -- one turn: the card after it, and what the line then holds
 module _ (bus : Bus) (index argument : ℕ) where
@@ -101,7 +100,7 @@ module _ (bus : Bus) (index argument : ℕ) where
   pub tell-turn : (i : ℕ) (d : Card) (low : Low) (next : List Card) (heard : Heard) (won : Bool) (turned : Turned)
       → length (bus .cards) ≡ 30 → i < countOf bus → low ≡ lowFor bus index → HeldAll bus index
       → next ≡ changed after i (bus .cards) → heard ≡ heardFrom quiet (map frame (take i (bus .cards)))
-      → won ≡ holds low (getD next i d) → turned ≡ turnOf heard (getD next i d) won index argument
+      → won ≡ holdsLow low (getD next i d) → turned ≡ turnOf heard (getD next i d) won index argument
       → (set next i (turned .card) ≡ changed after (i + 1) (bus .cards)) × (turned .heard ≡ heardFrom quiet (map frame (take (i + 1) (bus .cards))))
   unfolding turnOf cardAfter frameFrom
   tell-turn i d low next heard won turned long there found held en eh ew et =
@@ -109,12 +108,12 @@ module _ (bus : Bus) (index argument : ℕ) where
       let card : Card = getD cards i d in
       let here : getD next i d ≡ card = changed-next after i cards next d en in
       let right = turn-right bus index argument low card found held (getD-in (countOf bus) cards i d there (omega arith)) in
-      let told : turned ≡ turnOf heard card (holds low card) index argument =
-      et ∙ ap₂ (λ (c : Card) (w : Bool). turnOf heard c w index argument) here (ew ∙ ap (holds low) here) in
+      let told : turned ≡ turnOf heard card (holdsLow low card) index argument =
+      et ∙ ap₂ (λ (c : Card) (w : Bool). turnOf heard c w index argument) here (ew ∙ ap (holdsLow low) here) in
       let is : turned .card ≡ after card = ap (λ (t : Turned). t .card) told ∙ ap (λ (g : Commanded). withLink card (g .link)) right in
-      let holds : turned .heard ≡ heardOf heard (frame card) =
+      let holdsLow : turned .heard ≡ heardOf heard (frame card) =
       ap (λ (t : Turned). t .heard) told ∙ ap (λ (g : Commanded). heardOf heard (sentBytes (card .registers) (g .sent))) right in
-      (change-turn after i cards next (turned .card) d en is, heard-turn frame cards i d heard (turned .heard) (omega arith) eh holds)
+      (change-turn after i cards next (turned .card) d en is, heard-turn frame cards i d heard (turned .heard) (omega arith) eh holdsLow)
 
 -- ---- all at once
 pub line-is-heard : (bus : Bus) (index argument : ℕ) (heard : Heard) → HeldAll bus index → heard .length ≤ 17 → Below 256 (heard .line)

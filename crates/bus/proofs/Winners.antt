@@ -19,14 +19,14 @@ use lib.Seq.{take-suc}
 use Rattle.base.proofs.Cases.{cases}
 use Rattle.crc.proofs.Bits.{length-bits, bits-below}
 use Rattle.crc.specs.Bits.{bits, spelt, Below}
-use Rattle.line.proofs.Arbitration.{Bitwise, bitwise, winners, line-is-smallest}
-use Rattle.line.proofs.Orders.{by-order}
-use Rattle.line.specs.Line.{Sender, contested}
-use Rattle.line.specs.Lowest.{numberOf, noLow, lowerOf, isLow}
-use Rattle.line.specs.declared.Low.{Low}
-use Rattle.record.specs.declared.Card.{Card}
+use Rattle.shared_line.proofs.Arbitration.{Bitwise, bitwise, winners, line-is-smallest}
+use Rattle.shared_line.proofs.Orders.{by-order}
+use Rattle.shared_line.specs.Line.{Sender, contested}
+use Rattle.shared_line.specs.Lowest.{cidNumber, noLow, lowerOf, isLow}
+use Rattle.shared_line.specs.declared.Low.{Low}
+use Rattle.card_record.specs.declared.Card.{Card}
 use Rattle.bus.specs.Bus.{isReady, cidSender, cidBits, winsLine}
-use Rattle.bus.specs.Contest.{cidOf, betterOf, lowFrom, holds, Held}
+use Rattle.bus.specs.Contest.{cidOf, betterOf, lowFrom, holdsLow, Held}
 
 -- ---- the search
 low-snoc : (low : Low) (cards : List Card) (card : Card) → lowFrom low (cards ++ card ∷ []) ≡ betterOf (lowFrom low cards) card
@@ -48,26 +48,26 @@ low-turn low was now cards i d h p q =
 
 -- one step: what was found is no larger, and a Ready card's CID is no smaller than what is found
 better-old : (low : Low) (card : Card) → low .any ≡ true
-    → (betterOf low card .any ≡ true) × (numberOf (betterOf low card .cid) ≤ numberOf (low .cid))
+    → (betterOf low card .any ≡ true) × (cidNumber (betterOf low card .cid) ≤ cidNumber (low .cid))
 unfolding betterOf lowerOf
 better-old low card any =
     cases (isReady card)
     (λ r. by-order (cidOf card) (low .cid)
     (λ h o. rw (r, any, o) (refl, omega arith))
-    (λ h o. rw (r, any, o) (refl, le-refl (numberOf (low .cid))))
-    (λ h o. rw (r, any, o) (refl, le-refl (numberOf (low .cid)))))
-    (λ r. rw r (any, le-refl (numberOf (low .cid))))
+    (λ h o. rw (r, any, o) (refl, le-refl (cidNumber (low .cid))))
+    (λ h o. rw (r, any, o) (refl, le-refl (cidNumber (low .cid)))))
+    (λ r. rw r (any, le-refl (cidNumber (low .cid))))
 
 better-new : (low : Low) (card : Card) → isReady card ≡ true
-    → (betterOf low card .any ≡ true) × (numberOf (betterOf low card .cid) ≤ numberOf (cidOf card))
+    → (betterOf low card .any ≡ true) × (cidNumber (betterOf low card .cid) ≤ cidNumber (cidOf card))
 unfolding betterOf lowerOf
 better-new low card r =
     cases (low .any)
     (λ any. by-order (cidOf card) (low .cid)
-    (λ h o. rw (r, any, o) (refl, le-refl (numberOf (cidOf card))))
+    (λ h o. rw (r, any, o) (refl, le-refl (cidNumber (cidOf card))))
     (λ h o. rw (r, any, o) (refl, omega arith))
     (λ h o. rw (r, any, o) (refl, omega arith)))
-    (λ any. rw (r, any) (refl, le-refl (numberOf (cidOf card))))
+    (λ any. rw (r, any) (refl, le-refl (cidNumber (cidOf card))))
 
 better-from : (low : Low) (card : Card) → (betterOf low card ≡ low) ⊎ ((isReady card ≡ true) × (betterOf low card .cid ≡ cidOf card))
 unfolding betterOf lowerOf
@@ -88,31 +88,31 @@ module _ (low : Low) (card : Card) (ready : Bool) (told : ready ≡ isReady card
   unfolding betterOf
   better-sent r = let e = sym told ∙ not-false ready r in rw e
 
-  pub holds-silent : not ready ≡ true → false ≡ holds low card
-  unfolding holds
+  pub holds-silent : not ready ≡ true → false ≡ holdsLow low card
+  unfolding holdsLow
   holds-silent r = let e = sym told ∙ not-true ready r in rw e
 
-  pub holds-sent : not ready ≡ false → isLow low (cidOf card) ≡ holds low card
-  unfolding holds
+  pub holds-sent : not ready ≡ false → isLow low (cidOf card) ≡ holdsLow low card
+  unfolding holdsLow
   holds-sent r = let e = sym told ∙ not-false ready r in rw e
 
 low-old : (low : Low) (cards : List Card) → low .any ≡ true
-    → (lowFrom low cards .any ≡ true) × (numberOf (lowFrom low cards .cid) ≤ numberOf (low .cid))
+    → (lowFrom low cards .any ≡ true) × (cidNumber (lowFrom low cards .cid) ≤ cidNumber (low .cid))
 unfolding lowFrom
-low-old low [] any = (any, le-refl (numberOf (low .cid)))
+low-old low [] any = (any, le-refl (cidNumber (low .cid)))
 low-old low (card ∷ cards) any =
     let b = better-old low card any in
     let r = low-old (betterOf low card) cards (b .0) in
     (r .0, le-trans (r .1) (b .1))
 
 pub low-least : (low : Low) (cards : List Card) (card : Card) → List·Memᴰ card cards → isReady card ≡ true
-    → (lowFrom low cards .any ≡ true) × (numberOf (lowFrom low cards .cid) ≤ numberOf (cidOf card))
+    → (lowFrom low cards .any ≡ true) × (cidNumber (lowFrom low cards .cid) ≤ cidNumber (cidOf card))
 unfolding lowFrom
 low-least low [] card m r = absurd (List·Memᴰ·not-nil m)
 low-least low (x ∷ cards) card (List·Memᴰ·head e) r =
     let b = better-new low x (ap isReady (sym e) ∙ r) in
     let o = low-old (betterOf low x) cards (b .0) in
-    (o .0, subst (λ (z : Card). numberOf (lowFrom (betterOf low x) cards .cid) ≤ numberOf (cidOf z)) (sym e) (le-trans (o .1) (b .1)))
+    (o .0, subst (λ (z : Card). cidNumber (lowFrom (betterOf low x) cards .cid) ≤ cidNumber (cidOf z)) (sym e) (le-trans (o .1) (b .1)))
 low-least low (x ∷ cards) card (List·Memᴰ·tail m) r = low-least (betterOf low x) cards card m r
 
 -- a Ready card of these holds what was found
@@ -140,8 +140,8 @@ module _ (cards : List Card) (held : (card : Card) → List·Memᴰ card cards �
 
   -- where a card is Ready, the number that the line shows is the one that is found
   pub shown-low : (card : Card) → List·Memᴰ card cards → isReady card ≡ true
-      → spelt (contested cidBits (map cidSender cards)) ≡ numberOf (lowFrom noLow cards .cid)
-  unfolding numberOf noLow
+      → spelt (contested cidBits (map cidSender cards)) ≡ cidNumber (lowFrom noLow cards .cid)
+  unfolding cidNumber noLow
   shown-low card m r =
       let low : Low = lowFrom noLow cards in
       let least = low-least noLow cards card m r in
@@ -159,8 +159,8 @@ module _ (cards : List Card) (held : (card : Card) → List·Memᴰ card cards �
       none : lowFrom noLow cards ≡ noLow → lowFrom noLow cards .any ≡ false
       none e = ap (λ (l : Low). l .any) e
 
-  pub holders : (card : Card) → List·Memᴰ card cards → holds (lowFrom noLow cards) card ≡ winsLine cards card
-  unfolding holds isLow numberOf
+  pub holders : (card : Card) → List·Memᴰ card cards → holdsLow (lowFrom noLow cards) card ≡ winsLine cards card
+  unfolding holdsLow isLow cidNumber
   holders card m =
       let low : Low = lowFrom noLow cards in
       let w = winners cidBits (map cidSender cards) cid-bitwise (cidSender card) (Memᴰ·map cidSender m) in
@@ -171,9 +171,9 @@ module _ (cards : List Card) (held : (card : Card) → List·Memᴰ card cards �
       let shown = shown-low card m r in
       let any = low-least noLow cards card m r .0 in
       by-order (cidOf card) (low .cid)
-      (λ h o. let left : holds low card ≡ false = rw (any, r, o) in left ∙ sym (lost (λ t. let e = w .0 t .1 in omega arith)))
-      (λ h o. let left : holds low card ≡ true = rw (any, r, o) in left ∙ sym (w .1 (r, h ∙ sym shown)))
-      (λ h o. let left : holds low card ≡ false = rw (any, r, o) in left ∙ sym (lost (λ t. let e = w .0 t .1 in omega arith))))
+      (λ h o. let left : holdsLow low card ≡ false = rw (any, r, o) in left ∙ sym (lost (λ t. let e = w .0 t .1 in omega arith)))
+      (λ h o. let left : holdsLow low card ≡ true = rw (any, r, o) in left ∙ sym (w .1 (r, h ∙ sym shown)))
+      (λ h o. let left : holdsLow low card ≡ false = rw (any, r, o) in left ∙ sym (lost (λ t. let e = w .0 t .1 in omega arith))))
       (λ r.
-      let left : holds low card ≡ false = rw r in
+      let left : holdsLow low card ≡ false = rw r in
       left ∙ sym (lost (λ t. false≢true (sym r ∙ w .0 t .0))))

@@ -40,18 +40,18 @@ use Rattle.command.specs.Command.{damagedLink, resetTold, concluded, takenOf, c
 use Rattle.command.specs.Obey.{taggingOf, judgedOf, awaitedBy, obeyed, changeOf}
 use Rattle.crc.specs.Bits.{bits}
 use Rattle.crc.specs.Crc.{divide, remainder}
-use Rattle.line.specs.Line.{line, contested, wins, together}
+use Rattle.shared_line.specs.Line.{line, contested, wins, together}
 use Rattle.lock.specs.Passwords.{holding, noPassword}
 use Rattle.moves.specs.Classes.{classOf}
 use Rattle.moves.specs.Moves.{moveOf}
 use Rattle.moves.specs.Rows.{rowOf}
-use Rattle.record.specs.Making.{refusedMake}
-use Rattle.record.specs.declared.Card.{Card}
+use Rattle.card_record.specs.Making.{refusedMake}
+use Rattle.card_record.specs.declared.Card.{Card}
 use Rattle.states.specs.declared.State.{State}
 use Rattle.states.specs.declared.State.the-variants.{Idle, Ready, Ident, Stby, Ina}
 use Rattle.status.specs.Status.{wordOf}
 use Rattle.tags.specs.Tagging.{noTags}
-use Rattle.wire.specs.Frames.{crc7Of, sealed, sentOf, framingOf}
+use Rattle.wire.specs.Frames.{crc7Of, sealed, fieldsOf, framingOf}
 use Rattle.wire.specs.Responses.{r1Frame, r2Frame, r3Frame}
 use Rattle.bus.specs.Bus.{withCards, emptyBus, addedTo, takenFrom, putInto, commandAt, cardAfter, frameFrom, anyReady, longestOf, cidLine, andLine, lineOf, padded, commandFor, busFrame}
 use Rattle.bus.specs.declared.Adding.the-variants.{Place}
@@ -140,45 +140,45 @@ abbrev shows : Card → Card → List ℕ → List ℕ
 shows a b frame = busFrame (bus (a ∷ b ∷ [])) frame .line
 
 damage-before-empty : busFrame emptyBus damaged .shown ≡ Refused (by 3) → ⊥
-unfolding busFrame emptyBus framingOf sentOf crc7Of remainder divide bits
+unfolding busFrame emptyBus framingOf fieldsOf crc7Of remainder divide bits
 damage-before-empty e = let z : _≡_ {A = ℕ} 0 1 = cc in omega arith
 
 data-command-taken : busFrame (bus (ready 1 ∷ [])) cmd12 .shown ≡ Silent → ⊥
-unfolding busFrame framingOf sentOf crc7Of remainder divide bits commandFor
+unfolding busFrame framingOf fieldsOf crc7Of remainder divide bits commandFor
 data-command-taken e = let z : _≡_ {A = ℕ} 0 1 = cc in omega arith
 
 damage-told-inactive : at (after (card Ina 0x00FF8000 1) (ready 2) damaged) 0 .link .errors .bits ≡ 0x00800000 → ⊥
-unfolding busFrame framingOf sentOf crc7Of remainder divide bits withCards damagedLink refusedMake
+unfolding busFrame framingOf fieldsOf crc7Of remainder divide bits withCards damagedLink refusedMake
 damage-told-inactive e = omega arith
 
 damage-kept-from-last : at (after (card Ina 0x00FF8000 1) (ready 2) damaged) 1 .link .errors .bits ≡ 0 → ⊥
-unfolding busFrame framingOf sentOf crc7Of remainder divide bits withCards damagedLink refusedMake
+unfolding busFrame framingOf fieldsOf crc7Of remainder divide bits withCards damagedLink refusedMake
 damage-kept-from-last e = omega arith
 
 highest-shown : shows (ready 1) (ready 2) cmd2 ≡ 0x3F ∷ ready 2 .registers .cid → ⊥
-unfolding busFrame framingOf sentOf crc7Of remainder divide bits commandFor withCards commandAt cardAfter frameFrom lineOf cidLine andLine anyReady longestOf padded line contested wins together commandOf rowOf moveOf takenOf concluded judgedOf taggingOf argumentFault resetTold obeyed awaitedBy changeOf responseOf answered classOf wordOf sentBytes r1Frame r2Frame r3Frame sealed holding refusedMake
+unfolding busFrame framingOf fieldsOf crc7Of remainder divide bits commandFor withCards commandAt cardAfter frameFrom lineOf cidLine andLine anyReady longestOf padded line contested wins together commandOf rowOf moveOf takenOf concluded judgedOf taggingOf argumentFault resetTold obeyed awaitedBy changeOf responseOf answered classOf wordOf sentBytes r1Frame r2Frame r3Frame sealed holding refusedMake
 highest-shown e = let z : _≡_ {A = ℕ} 1 2 = ap (λ (l : List ℕ). getD l 16 0) e in omega arith
 
 loser-moves : at (after (ready 1) (ready 2) cmd2) 1 .link .state ≡ Ident → ⊥
-unfolding busFrame framingOf sentOf crc7Of remainder divide bits commandFor withCards commandAt cardAfter frameFrom lineOf cidLine andLine anyReady longestOf padded line contested wins together commandOf rowOf moveOf takenOf concluded judgedOf taggingOf argumentFault resetTold obeyed awaitedBy changeOf responseOf answered classOf wordOf sentBytes r1Frame r2Frame r3Frame sealed holding refusedMake
+unfolding busFrame framingOf fieldsOf crc7Of remainder divide bits commandFor withCards commandAt cardAfter frameFrom lineOf cidLine andLine anyReady longestOf padded line contested wins together commandOf rowOf moveOf takenOf concluded judgedOf taggingOf argumentFault resetTold obeyed awaitedBy changeOf responseOf answered classOf wordOf sentBytes r1Frame r2Frame r3Frame sealed holding refusedMake
 loser-moves e = let z : _≡_ {A = ℕ} 0 1 = cc in omega arith
 
 winner-waits : at (after (ready 1) (ready 2) cmd2) 0 .link .state ≡ Ready → ⊥
-unfolding busFrame framingOf sentOf crc7Of remainder divide bits commandFor withCards commandAt cardAfter frameFrom lineOf cidLine andLine anyReady longestOf padded line contested wins together commandOf rowOf moveOf takenOf concluded judgedOf taggingOf argumentFault resetTold obeyed awaitedBy changeOf responseOf answered classOf wordOf sentBytes r1Frame r2Frame r3Frame sealed holding refusedMake
+unfolding busFrame framingOf fieldsOf crc7Of remainder divide bits commandFor withCards commandAt cardAfter frameFrom lineOf cidLine andLine anyReady longestOf padded line contested wins together commandOf rowOf moveOf takenOf concluded judgedOf taggingOf argumentFault resetTold obeyed awaitedBy changeOf responseOf answered classOf wordOf sentBytes r1Frame r2Frame r3Frame sealed holding refusedMake
 winner-waits e = let z : _≡_ {A = ℕ} 0 1 = cc in omega arith
 
 cmd3-reaches-ready : at (after (card Ident 0x00FF8000 1) (ready 2) cmd3) 1 .link .state ≡ Stby → ⊥
-unfolding busFrame framingOf sentOf crc7Of remainder divide bits commandFor withCards commandAt cardAfter frameFrom lineOf cidLine andLine anyReady longestOf padded line contested wins together commandOf rowOf moveOf takenOf concluded judgedOf taggingOf argumentFault resetTold obeyed awaitedBy changeOf responseOf answered classOf wordOf sentBytes r1Frame r2Frame r3Frame sealed holding refusedMake
+unfolding busFrame framingOf fieldsOf crc7Of remainder divide bits commandFor withCards commandAt cardAfter frameFrom lineOf cidLine andLine anyReady longestOf padded line contested wins together commandOf rowOf moveOf takenOf concluded judgedOf taggingOf argumentFault resetTold obeyed awaitedBy changeOf responseOf answered classOf wordOf sentBytes r1Frame r2Frame r3Frame sealed holding refusedMake
 cmd3-reaches-ready e = let z : _≡_ {A = ℕ} 0 1 = cc in omega arith
 
 cmd3-tells-address : at (after (card Ident 0x00FF8000 1) (ready 2) cmd3) 1 .link .address ≡ 2 → ⊥
-unfolding busFrame framingOf sentOf crc7Of remainder divide bits commandFor withCards commandAt cardAfter frameFrom lineOf cidLine andLine anyReady longestOf padded line contested wins together commandOf rowOf moveOf takenOf concluded judgedOf taggingOf argumentFault resetTold obeyed awaitedBy changeOf responseOf answered classOf wordOf sentBytes r1Frame r2Frame r3Frame sealed holding refusedMake
+unfolding busFrame framingOf fieldsOf crc7Of remainder divide bits commandFor withCards commandAt cardAfter frameFrom lineOf cidLine andLine anyReady longestOf padded line contested wins together commandOf rowOf moveOf takenOf concluded judgedOf taggingOf argumentFault resetTold obeyed awaitedBy changeOf responseOf answered classOf wordOf sentBytes r1Frame r2Frame r3Frame sealed holding refusedMake
 cmd3-tells-address e = omega arith
 
 line-ored : getD (shows (card Idle 0x00C00000 1) (card Idle 0x00300000 2) cmd1) 2 0 ≡ 0xF0 → ⊥
-unfolding busFrame framingOf sentOf crc7Of remainder divide bits commandFor withCards commandAt cardAfter frameFrom lineOf cidLine andLine anyReady longestOf padded line contested wins together commandOf rowOf moveOf takenOf concluded judgedOf taggingOf argumentFault resetTold obeyed awaitedBy changeOf responseOf answered classOf wordOf sentBytes r1Frame r2Frame r3Frame sealed holding refusedMake
+unfolding busFrame framingOf fieldsOf crc7Of remainder divide bits commandFor withCards commandAt cardAfter frameFrom lineOf cidLine andLine anyReady longestOf padded line contested wins together commandOf rowOf moveOf takenOf concluded judgedOf taggingOf argumentFault resetTold obeyed awaitedBy changeOf responseOf answered classOf wordOf sentBytes r1Frame r2Frame r3Frame sealed holding refusedMake
 line-ored e = omega arith
 
 silence-shown : busFrame (bus (card Stby 0x00FF8000 1 ∷ [])) cmd2 .shown ≡ Line 17 → ⊥
-unfolding busFrame framingOf sentOf crc7Of remainder divide bits commandFor withCards commandAt cardAfter frameFrom lineOf cidLine andLine anyReady longestOf padded line contested wins together commandOf rowOf moveOf takenOf concluded judgedOf taggingOf argumentFault resetTold obeyed awaitedBy changeOf responseOf answered classOf wordOf sentBytes r1Frame r2Frame r3Frame sealed holding refusedMake
+unfolding busFrame framingOf fieldsOf crc7Of remainder divide bits commandFor withCards commandAt cardAfter frameFrom lineOf cidLine andLine anyReady longestOf padded line contested wins together commandOf rowOf moveOf takenOf concluded judgedOf taggingOf argumentFault resetTold obeyed awaitedBy changeOf responseOf answered classOf wordOf sentBytes r1Frame r2Frame r3Frame sealed holding refusedMake
 silence-shown e = let z : _≡_ {A = ℕ} 0 1 = cc in omega arith

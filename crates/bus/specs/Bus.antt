@@ -9,16 +9,15 @@ use Rattle.base.specs.Choice.{pick, unless}
 use Rattle.base.specs.Refusals.{by}
 use Rattle.base.specs.declared.Refusal.{Refusal}
 use Rattle.command.specs.Sending.{sentBytes}
-use Rattle.command.specs.Command.{damagedLink, commandOf}
+use Rattle.command.specs.Command.{metBy, damagedLink, commandOf}
 use Rattle.command.specs.declared.Commanded.{Commanded}
-use Rattle.command.specs.declared.Met.{Met}
 use Rattle.crc.specs.Bits.{bits, octets}
-use Rattle.line.specs.Line.{Sender, contested, wins, together}
+use Rattle.shared_line.specs.Line.{Sender, contested, wins, together}
 use Rattle.moves.specs.Indices.{among}
-use Rattle.record.specs.Making.{refusedMake}
-use Rattle.record.specs.Record.{withLink}
-use Rattle.record.specs.declared.Card.{Card}
-use Rattle.states.specs.States.{columnOf, numberOf}
+use Rattle.card_record.specs.Making.{refusedMake}
+use Rattle.card_record.specs.Record.{withLink}
+use Rattle.card_record.specs.declared.Card.{Card}
+use Rattle.states.specs.States.{columnOf, columnNumber}
 use Rattle.wire.specs.Frames.{framingOf}
 use Rattle.wire.specs.declared.Framing.{Framing}
 use Rattle.wire.specs.declared.Framing.the-variants.{Framed, Unframed}
@@ -67,7 +66,7 @@ putInto bus place card = unless (ltb place (countOf bus)) bus (record { cards = 
 
 -- "In CMD2 every Ready card sends its CID highest bit first"
 abbrev pub isReady : Card → Bool
-isReady card = eqb (numberOf (columnOf (card .link .state))) 1
+isReady card = eqb (columnNumber (columnOf (card .link .state))) 1
 
 abbrev pub cidSender : Card → Sender
 cidSender card = record { on = isReady card; bits = bits (card .registers .cid) }
@@ -79,12 +78,9 @@ cidBits = 128
 abbrev pub winsLine : List Card → Card → Bool
 winsLine cards card = wins cidBits (map cidSender cards) (cidSender card)
 
-abbrev pub metWith : Bool → Card → Met
-metWith wins card = record { ocr = card .registers .ocr; groups = card .registers .groups; locked = card .lock .locked; wins = wins }
-
 -- what a command does at one card of these
 unfoldable pub commandAt : List Card → ℕ → ℕ → Card → Commanded
-commandAt cards index argument card = commandOf (card .link) (metWith (winsLine cards card) card) index argument
+commandAt cards index argument card = commandOf (card .link) (metBy card (winsLine cards card)) index argument
 
 unfoldable pub cardAfter : List Card → ℕ → ℕ → Card → Card
 cardAfter cards index argument card = withLink card (commandAt cards index argument card .link)

@@ -9,9 +9,9 @@ use lib.Dec.{eqb}
 use lib.ListN.{length, getD}
 use Rattle.base.specs.Choice.{unless}
 use Rattle.crc.specs.Bits.{Below}
-use Rattle.line.specs.Lowest.{noLow, lowerOf, isLow}
-use Rattle.line.specs.declared.Low.{Low}
-use Rattle.record.specs.declared.Card.{Card}
+use Rattle.shared_line.specs.Lowest.{noLow, lowerOf, isLow}
+use Rattle.shared_line.specs.declared.Low.{Low}
+use Rattle.card_record.specs.declared.Card.{Card}
 use Rattle.bus.specs.Bus.{isReady, countOf, cardsOf}
 use Rattle.bus.specs.declared.Bus.{Bus}
 
@@ -31,8 +31,8 @@ unfoldable pub lowFor : Bus → ℕ → Low
 lowFor bus index = unless (eqb index 2) noLow (lowFrom noLow (cardsOf bus))
 
 -- whether a card sends its CID and it is the one that was found
-unfoldable pub holds : Low → Card → Bool
-holds low card = unless (isReady card) false (isLow low (cidOf card))
+unfoldable pub holdsLow : Low → Card → Bool
+holdsLow low card = unless (isReady card) false (isLow low (cidOf card))
 
 -- what the type of a card says of its CID: 16 bytes
 abbrev pub Held : Card → Type 0

@@ -6,11 +6,11 @@ use mathlib.Core.List.{List, [], _∷_, map}
 use Prim.Native.Nat.{ℕ, max}
 use lib.ListN.{length, take, replicate}
 use Rattle.command.specs.Sending.{sentBytes}
-use Rattle.command.specs.Command.{commandOf}
-use Rattle.line.specs.Bytes.{anded}
-use Rattle.record.specs.Record.{withLink}
-use Rattle.record.specs.declared.Card.{Card}
-use Rattle.bus.specs.Bus.{cardsOf, withCards, metWith, cardAfter, lineOf, shownOf, padded}
+use Rattle.command.specs.Command.{metBy, commandOf}
+use Rattle.shared_line.specs.Bytes.{anded}
+use Rattle.card_record.specs.Record.{withLink}
+use Rattle.card_record.specs.declared.Card.{Card}
+use Rattle.bus.specs.Bus.{cardsOf, withCards, cardAfter, lineOf, shownOf, padded}
 use Rattle.bus.specs.declared.Bus.{Bus}
 use Rattle.bus.specs.declared.Framed.{Framed}
 use Rattle.bus.specs.declared.Heard.{Heard}
@@ -31,8 +31,8 @@ heardFrom heard (frame ∷ frames) = heardFrom (heardOf heard frame) frames
 unfoldable pub turnOf : Heard → Card → Bool → ℕ → ℕ → Turned
 turnOf heard card wins index argument =
     record {
-      card = withLink card (commandOf (card .link) (metWith wins card) index argument .link);
-      heard = heardOf heard (sentBytes (card .registers) (commandOf (card .link) (metWith wins card) index argument .sent));
+      card = withLink card (commandOf (card .link) (metBy card wins) index argument .link);
+      heard = heardOf heard (sentBytes (card .registers) (commandOf (card .link) (metBy card wins) index argument .sent));
     }
 
 -- the first bytes of the line, and zeros behind them

@@ -2,11 +2,11 @@
 // heard to the last bit is proved.
 use crate::Bus;
 use crate::places;
-use line::Low;
-use record::Card;
+use card_record::Card;
+use shared_line::Low;
 ghost use mathlib.Core.Path.{_≡_};
 ghost use Rattle.bus.specs.Bus.{isReady};
-ghost use Rattle.bus.specs.Contest.{betterOf, lowFor, holds, Held, HeldAll};
+ghost use Rattle.bus.specs.Contest.{betterOf, lowFor, holdsLow, Held, HeldAll};
 
 fn is_ready(card: Card) -> bool
     ensures { λ r. ⌜ r ≡ isReady card ⌝ }
@@ -27,7 +27,7 @@ fn better(low: Low, card: Card) -> Low
     if !is_ready(card) {
         return low;
     }
-    line::lower(low, cid)
+    shared_line::lower(low, cid)
 }
 
 // The smallest CID among the Ready cards, for CMD2 alone.
@@ -36,10 +36,10 @@ pub fn lowest(bus: Bus, index: u8) -> Low
     ensures bytes { λ _. ⌜ HeldAll bus index ⌝ }
 {
     if index != 2 {
-        return line::nobody();
+        return shared_line::nobody();
     }
     let end = places(bus.count);
-    let mut low = line::nobody();
+    let mut low = shared_line::nobody();
     let mut i: usize = 0;
     while i < end {
         let card = bus.cards[i];
@@ -51,12 +51,12 @@ pub fn lowest(bus: Bus, index: u8) -> Low
 
 // Whether a card sends its CID and it is the smallest.
 pub fn wins(low: Low, card: Card) -> bool
-    ensures answer { λ r. ⌜ r ≡ holds low card ⌝ }
+    ensures answer { λ r. ⌜ r ≡ holdsLow low card ⌝ }
 {
     if !is_ready(card) {
         return false;
     }
     let registers = card.registers;
     let cid = registers.cid;
-    line::is_low(low, cid)
+    shared_line::is_low(low, cid)
 }

@@ -11,10 +11,10 @@ use crate::places;
 use crate::refuse;
 use base::Refusal;
 use base::Written;
+use card_record::Card;
+use card_record::Registers;
 use command::Met;
 use command::Sent;
-use record::Card;
-use record::Registers;
 ghost use mathlib.Core.Path.{_≡_};
 ghost use Prim.Native.Nat.{_≤_, max};
 ghost use Rattle.bus.specs.Bus.{busIndices, commandFor};
@@ -43,7 +43,7 @@ fn hear(heard: Heard, registers: Registers, sent: Sent) -> Heard
     let line = heard.line;
     match written {
         Written::Bytes(n) => Heard {
-            line: line::and(line, &sends[0..n]),
+            line: shared_line::and(line, &sends[0..n]),
             length: longer(heard.length, n),
         },
         Written::Refused(_) => heard,

@@ -7,8 +7,8 @@ mod contest;
 mod hearing;
 
 use base::Refusal;
+use card_record::Card;
 use hearing::command_for;
-use record::Card;
 use wire::Framing;
 ghost use mathlib.Core.List.{map};
 ghost use mathlib.Core.Path.{_≡_};
@@ -78,7 +78,7 @@ fn places(count: usize) -> usize
 pub fn empty() -> Bus
     ensures answer { λ r. ⌜ r ≡ emptyBus ⌝ }
 {
-    let none = record::refused_make();
+    let none = card_record::refused_make();
     let cards = [none; 30];
     Bus { cards, count: 0 }
 }
@@ -110,7 +110,7 @@ pub fn take(bus: Bus, place: usize) -> Taken
     let end = places(bus.count);
     if end <= place {
         return Taken {
-            card: record::refused_make(),
+            card: card_record::refused_make(),
             found: false,
         };
     }

@@ -15,9 +15,9 @@ use borrow.Author.Tests.{leb-true, ltb-true, ltb-false, eqb-true, not-true}
 use lib.Dec.{eqb, leb, ltb}
 use lib.ListN.{length, take}
 use Rattle.base.proofs.Cases.{guarded, clash}
-use Rattle.base.specs.Refusals.{by}
+use Rattle.base.specs.Refusals.{refusalOf, by}
 use Rattle.base.specs.declared.Refusal.{Refusal}
-use Rattle.command.specs.Command.{damagedLink, commandOf}
+use Rattle.command.specs.Command.{metBy, damagedLink, commandOf}
 use Rattle.crc.specs.Bits.{bits}
 use Rattle.crc.specs.Crc.{crc16}
 use Rattle.lock.specs.Requests.{requestOf}
@@ -25,8 +25,8 @@ use Rattle.lock.specs.declared.Answer.{Answer}
 use Rattle.lock.specs.declared.Answer.the-variants.{Granted, Erased, Failed}
 use Rattle.lock.specs.declared.Requested.{Requested}
 use Rattle.moves.specs.Indices.{among}
-use Rattle.record.specs.Record.{sizeOf, csdProtects, lengthRead, crosses, withLink, withLock}
-use Rattle.record.specs.declared.Card.{Card}
+use Rattle.card_record.specs.Record.{sizeOf, csdProtects, lengthRead, crosses, withLink, withLock}
+use Rattle.card_record.specs.declared.Card.{Card}
 use Rattle.states.specs.declared.Incoming.{Incoming}
 use Rattle.states.specs.declared.Incoming.the-variants.{One, Many, LockRequest}
 use Rattle.states.specs.declared.Outgoing.{Outgoing}
@@ -37,14 +37,14 @@ use Rattle.status.specs.ErrorBits.{errorBit}
 use Rattle.status.specs.declared.Fault.{Fault}
 use Rattle.status.specs.declared.Fault.the-variants.{None, Bit}
 use Rattle.store.specs.Map.{lentRight, protectedIn}
-use Rattle.wire.specs.Blocks.{carried, told as toldCrc}
-use Rattle.wire.specs.Frames.{crc7Of, field, sentOf, framingOf, checked, frameOf}
+use Rattle.wire.specs.Blocks.{payloadOf, crcIn as toldCrc}
+use Rattle.wire.specs.Frames.{crc7Of, field, fieldsOf, framingOf, checked, frameOf}
 use Rattle.wire.specs.declared.Frame.the-variants.{Command}
 use Rattle.wire.specs.declared.Framing.{Framing}
 use Rattle.wire.specs.declared.Framing.the-variants.{Framed}
 use Rattle.card.specs.BlockIn.{beside, awaitedLength, afterStored, blockRefused, blockGood, writeJudged, lockJudged, requestJudged, carriedOut, awaitedJudged, unread, stateJudged, blockJudged}
 use Rattle.card.specs.BlockOut.{unsent, outRefused, outGood, afterSent, partJudged, protectionJudged, outgoingJudged, stateSends, outJudged}
-use Rattle.card.specs.Frame.{metAlone, frameRefused, commanded, framed, frameJudged, sparedTold}
+use Rattle.card.specs.Frame.{frameRefused, commanded, framed, frameJudged, sparedTold}
 use Rattle.card.specs.declared.BlockJudged.{BlockJudged}
 use Rattle.card.specs.declared.FrameJudged.{FrameJudged}
 use Rattle.card.specs.declared.OutJudged.{OutJudged}
@@ -70,7 +70,7 @@ sectors card = sizeOf (card .registers .groups) / 512
 
 -- the answer to the lock request that a block carries
 abbrev pub askedOf : Card → List ℕ → Requested
-askedOf card block = requestOf (card .lock) (carried block) (csdProtects (card .registers .csd))
+askedOf card block = requestOf (card .lock) (payloadOf block) (csdProtects (card .registers .csd))
 
 -- ---- the lists
 -- an awaited block is refused: 16, 17, 18, 19, 20
@@ -90,7 +90,7 @@ pub record Storable (card : Card) (block : List ℕ) (memory : ℕ) (map : List 
 
 -- a block in: 12, 15; an awaited block refused; a sector stored; a lock request granted, a forced erase or another
 pub data InOutcome (card : Card) (block : List ℕ) (memory : ℕ) (map : List ℕ) : BlockJudged → Type 0 where
-  unreads : (n : ℕ) → among n (12 ∷ 15 ∷ []) ≡ true → InOutcome card block memory map (unread card (by n))
+  unreads : (n : ℕ) → among n (12 ∷ 15 ∷ []) ≡ true → InOutcome card block memory map (unread card (refusalOf n))
   refuses : (incoming : Incoming) (refusal : Refusal) (fault : Fault) → card .link .state ≡ Rcv incoming → Refuses card incoming refusal fault
       → InOutcome card block memory map (blockRefused card incoming refusal fault)
   stores : (incoming : Incoming) (at : ℕ) → WritesAt incoming at → card .link .state ≡ Rcv incoming → Storable card block memory map (at / 512)
@@ -102,18 +102,18 @@ pub data InOutcome (card : Card) (block : List ℕ) (memory : ℕ) (map : List �
 
 -- a block out: 12, 15, 6; 18 with bit 31 and 21 with bit 30; a block sent, with the address behind it in the memory
 pub data OutOutcome (card : Card) : OutJudged → Type 0 where
-  unsends : (n : ℕ) → among n (12 ∷ 15 ∷ 6 ∷ []) ≡ true → OutOutcome card (unsent card (by n))
+  unsends : (n : ℕ) → among n (12 ∷ 15 ∷ 6 ∷ []) ≡ true → OutOutcome card (unsent card (refusalOf n))
   past : (outgoing : Outgoing) → card .link .state ≡ Data outgoing → OutOutcome card (outRefused card (by 18) (errorBit 31))
   across : (outgoing : Outgoing) → card .link .state ≡ Data outgoing → OutOutcome card (outRefused card (by 21) (errorBit 30))
   sends : (outgoing : Outgoing) (next n : ℕ) (sending : Sending) → card .link .state ≡ Data outgoing → next ≤ sizeOf (card .registers .groups)
       → OutOutcome card (outGood card (afterSent outgoing next) n sending)
 
 -- a frame: 12, 1, 2; 3, with bit 23; a command that was read
-pub data FrameOutcome (card : Card) (frame : List ℕ) (memory : ℕ) (map : List ℕ) : FrameJudged → Type 0 where
-  unheard : (n : ℕ) → among n (12 ∷ 1 ∷ 2 ∷ []) ≡ true → FrameOutcome card frame memory map (frameRefused card (by n))
-  damaged : FrameOutcome card frame memory map (frameRefused (withLink card (damagedLink (card .link))) (by 3))
+pub data FrameOutcome (card : Card) (wins : Bool) (frame : List ℕ) (memory : ℕ) (map : List ℕ) : FrameJudged → Type 0 where
+  unheard : (n : ℕ) → among n (12 ∷ 1 ∷ 2 ∷ []) ≡ true → FrameOutcome card wins frame memory map (frameRefused card (refusalOf n))
+  damaged : FrameOutcome card wins frame memory map (frameRefused (withLink card (damagedLink (card .link))) (by 3))
   commands : (index argument : ℕ) → frameOf frame ≡ Command index argument → lentRight memory map (card .registers .groups) ≡ true
-      → FrameOutcome card frame memory map (commanded card (commandOf (card .link) (metAlone card) index argument))
+      → FrameOutcome card wins frame memory map (commanded card (commandOf (card .link) (metBy card wins) index argument))
 
 -- ---- a block in
 module _ (card : Card) (block : List ℕ) (memory : ℕ) (map : List ℕ) where
@@ -139,7 +139,7 @@ module _ (card : Card) (block : List ℕ) (memory : ℕ) (map : List ℕ) where
         (λ u. stores incoming at w on (record { lent = lent; long = long; in-range = ltb-true (at / 512) (sectors card) t; free = not-true _ u })))
 
     carried-outcome : (incoming : Incoming) → card .link .state ≡ Rcv incoming → length block ≡ awaitedLength card incoming + beside
-        → In (carriedOut card incoming (carried block) map)
+        → In (carriedOut card incoming (payloadOf block) map)
     unfolding requestJudged
     carried-outcome (One at) on long = write-outcome (One at) at (one at) on long
     carried-outcome (Many at) on long = write-outcome (Many at) at (many at) on long
@@ -150,7 +150,7 @@ module _ (card : Card) (block : List ℕ) (memory : ℕ) (map : List ℕ) where
     awaited-outcome incoming on =
         guarded In (eqb (length block) (awaitedLength card incoming + beside)) (λ t. refuses incoming (by 16) (Bit (errorBit 29)) on wrong-length)
         (λ t.
-        guarded In (eqb (toldCrc block) (crc16 (carried block))) (λ u. refuses incoming (by 17) None on wrong-crc)
+        guarded In (eqb (toldCrc block) (crc16 (payloadOf block))) (λ u. refuses incoming (by 17) None on wrong-crc)
         (λ u. carried-outcome incoming on (eqb-true (length block) (awaitedLength card incoming + beside) t)))
 
     in-state : (state : State) → card .link .state ≡ state → In (stateJudged card state block map)
@@ -210,21 +210,21 @@ module _ (card : Card) where
       guarded Out (lentRight memory map (card .registers .groups)) (λ t. unsends 12 refl) (λ t. out-state (card .link .state) room refl)
 
 -- ---- a frame
-module _ (card : Card) (frame : List ℕ) (memory : ℕ) (map : List ℕ) where
+module _ (card : Card) (wins : Bool) (frame : List ℕ) (memory : ℕ) (map : List ℕ) where
   abbrev Heard : FrameJudged → Type 0
-  Heard = FrameOutcome card frame memory map
+  Heard = FrameOutcome card wins frame memory map
 
   module _ (lent : lentRight memory map (card .registers .groups) ≡ true) where
     -- a framing, where it is the frame's
     abbrev Reads : Framing → Type 0
-    Reads framing = frameOf frame ≡ checked framing → Heard (framed card framing)
+    Reads framing = frameOf frame ≡ checked framing → Heard (framed card wins framing)
 
     by-crc : (index argument : ℕ) (right : Bool) → Reads (Framed index argument right)
     by-crc index argument true e = commands index argument e lent
     by-crc index argument false e = damaged
 
-    by-bits : (sent : List ℕ) → Reads (sentOf sent)
-    unfolding sentOf
+    by-bits : (sent : List ℕ) → Reads (fieldsOf sent)
+    unfolding fieldsOf
     by-bits sent =
         guarded Reads (eqb (field sent 0 1) 0) (λ t e. unheard 2 refl)
         (λ t.
@@ -237,7 +237,7 @@ module _ (card : Card) (frame : List ℕ) (memory : ℕ) (map : List ℕ) where
     unfolding framingOf
     by-length = guarded Reads (eqb (length frame) 6) (λ t e. unheard 1 refl) (λ t. by-bits (bits frame))
 
-  pub frame-outcome : FrameOutcome card frame memory map (frameJudged card frame memory map)
+  pub frame-outcome : FrameOutcome card wins frame memory map (frameJudged card wins frame memory map)
   unfolding frameJudged frameOf
   frame-outcome = guarded Heard (lentRight memory map (card .registers .groups)) (λ t. unheard 12 refl) (λ t. by-length t refl)
 

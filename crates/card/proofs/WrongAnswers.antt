@@ -13,10 +13,10 @@ use Rattle.base.proofs.Cases.{clash}
 use Rattle.base.specs.Refusals.{by}
 use Rattle.command.specs.declared.Sent.the-variants.{Cid}
 use Rattle.lock.specs.Passwords.{noPassword}
-use Rattle.record.specs.Power.{freshLink}
-use Rattle.record.specs.Record.{withState}
-use Rattle.record.specs.declared.Card.{Card}
-use Rattle.record.specs.declared.Registers.{Registers}
+use Rattle.card_record.specs.Power.{freshLink}
+use Rattle.card_record.specs.Record.{withState}
+use Rattle.card_record.specs.declared.Card.{Card}
+use Rattle.card_record.specs.declared.Registers.{Registers}
 use Rattle.states.specs.declared.State.{State}
 use Rattle.states.specs.declared.State.the-variants.{Idle, Tran, Ina}
 use Rattle.card.specs.Replies.{refused, done}

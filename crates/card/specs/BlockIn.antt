@@ -7,6 +7,7 @@ use lib.Dec.{eqb, ltb}
 use lib.ListN.{length, take, replicate}
 use Rattle.base.specs.Choice.{unless}
 use Rattle.base.specs.Refusals.{by}
+use Rattle.base.specs.Sizes.{sectorSize}
 use Rattle.base.specs.declared.Refusal.{Refusal}
 use Rattle.card.specs.Replies.{refused, done}
 use Rattle.card.specs.declared.BlockJudged.{BlockJudged}
@@ -17,8 +18,8 @@ use Rattle.lock.specs.Requests.{requestOf}
 use Rattle.lock.specs.declared.Answer.{Answer}
 use Rattle.lock.specs.declared.Answer.the-variants.{Granted, Erased, Failed}
 use Rattle.lock.specs.declared.Lock.{Lock}
-use Rattle.record.specs.Record.{sizeOf, csdProtects, lengthRead, withState, withErrors, withLink, withLock}
-use Rattle.record.specs.declared.Card.{Card}
+use Rattle.card_record.specs.Record.{sizeOf, csdProtects, lengthRead, withState, withErrors, withLink, withLock}
+use Rattle.card_record.specs.declared.Card.{Card}
 use Rattle.states.specs.declared.Incoming.{Incoming}
 use Rattle.states.specs.declared.Incoming.the-variants.{One, Many, LockRequest}
 use Rattle.states.specs.declared.State.{State}
@@ -30,7 +31,7 @@ use Rattle.status.specs.declared.Fault.{Fault}
 use Rattle.status.specs.declared.Fault.the-variants.{None, Bit}
 use Rattle.store.specs.Map.{lentRight, protectedIn, mapCleared}
 use Rattle.store.specs.Memory.{sectorWritten, allErased}
-use Rattle.wire.specs.Blocks.{carried, told}
+use Rattle.wire.specs.Blocks.{payloadOf, crcIn}
 
 -- what a block carries beside its payload: "then CRC16"
 abbrev pub beside : ℕ
@@ -38,13 +39,13 @@ beside = 2
 
 -- the payload's length that is awaited: a write's is a sector, and a lock request is "one block of the block length"
 abbrev pub awaitedLength : Card → Incoming → ℕ
-awaitedLength card (One at) = 512
-awaitedLength card (Many at) = 512
+awaitedLength card (One at) = sectorSize
+awaitedLength card (Many at) = sectorSize
 awaitedLength card LockRequest = lengthRead (card .link .length)
 
 -- the sector that a write goes to: an address that is not aligned reads rounded down
 abbrev pub sectorAt : ℕ → ℕ
-sectorAt at = at / 512
+sectorAt at = at / sectorSize
 
 -- after a refused block: "CMD24 then goes to tran, CMD25 stays at its address"; a lock request's "16, 17, 20 go to tran"
 abbrev pub afterRefused : Incoming → State
@@ -79,9 +80,9 @@ blockGood card state storing = record { stepped = done (withLink card (withState
 -- a write's block: 18, 19, and else "A good block is stored"
 unfoldable pub writeJudged : Card → Incoming → ℕ → List ℕ → BlockJudged
 writeJudged card incoming sector map =
-    unless (ltb sector (sizeOf (card .registers .groups) / 512)) (blockRefused card incoming (by 18) (Bit (errorBit 31)))
+    unless (ltb sector (sizeOf (card .registers .groups) / sectorSize)) (blockRefused card incoming (by 18) (Bit (errorBit 31)))
     (unless (not (protectedIn map (csdProtects (card .registers .csd)) sector)) (blockRefused card incoming (by 19) (Bit (errorBit 26)))
-    (blockGood card (afterStored incoming (sector * 512 + 512)) (Sector sector)))
+    (blockGood card (afterStored incoming (sector * sectorSize + sectorSize)) (Sector sector)))
 
 -- a lock request's block: 20 where it failed; "Granted goes to prg"; "Forced erase .. fills memory, clears the map"
 abbrev pub lockJudged : Card → Lock → Answer → BlockJudged
@@ -104,8 +105,8 @@ carriedOut card LockRequest payload map = requestJudged card payload
 unfoldable pub awaitedJudged : Card → Incoming → List ℕ → List ℕ → BlockJudged
 awaitedJudged card incoming block map =
     unless (eqb (length block) (awaitedLength card incoming + beside)) (blockRefused card incoming (by 16) (Bit (errorBit 29)))
-    (unless (eqb (told block) (crc16 (carried block))) (blockRefused card incoming (by 17) None)
-    (carriedOut card incoming (carried block) map))
+    (unless (eqb (crcIn block) (crc16 (payloadOf block))) (blockRefused card incoming (by 17) None)
+    (carriedOut card incoming (payloadOf block) map))
 
 -- a block that is not looked at: the record is as it was
 abbrev pub unread : Card → Refusal → BlockJudged
@@ -129,21 +130,21 @@ unfoldable pub blockJudged : Card → List ℕ → ℕ → List ℕ → BlockJud
 blockJudged card block memory map =
     unless (lentRight memory map (card .registers .groups)) (unread card (by 12)) (stateJudged card (card .link .state) block map)
 
--- the 512 bytes that judging gives beside its answer: the block's first, and zeros where it has fewer
+-- the bytes of a sector that judging gives beside its answer: the block's first, and zeros where it has fewer
 unfoldable pub keptOf : List ℕ → List ℕ
-keptOf block = take 512 block ++ replicate (512 - length block) 0
+keptOf block = take sectorSize block ++ replicate (sectorSize - length block) 0
 
 -- how many bytes of a block are kept until they are stored: none where no sector is to be stored
 abbrev pub keptLength : Storing → ℕ → ℕ
 keptLength Nothing n = 0
-keptLength (Sector sector) n = min n 512
+keptLength (Sector sector) n = min n sectorSize
 keptLength All n = 0
 
--- and the 512 bytes that are kept
+-- and the bytes that are kept
 abbrev pub keptFor : List ℕ → Storing → List ℕ
-keptFor block Nothing = replicate 512 0
+keptFor block Nothing = replicate sectorSize 0
 keptFor block (Sector sector) = keptOf block
-keptFor block All = replicate 512 0
+keptFor block All = replicate sectorSize 0
 
 -- the contents afterwards
 abbrev pub storedBy : List ℕ → List ℕ → Storing → List ℕ

@@ -17,8 +17,8 @@ use Rattle.card.specs.declared.Sending.{Sending}
 use Rattle.card.specs.declared.Sending.the-variants.{Nothing, Part, Protection}
 use Rattle.command.specs.declared.Sent.the-variants.{Nothing as Unsent}
 use Rattle.crc.specs.Bits.{bitsOf, octets}
-use Rattle.record.specs.Record.{sizeOf, lengthRead, crosses, withState, withErrors, withLink}
-use Rattle.record.specs.declared.Card.{Card}
+use Rattle.card_record.specs.Record.{sizeOf, lengthRead, crosses, withState, withErrors, withLink}
+use Rattle.card_record.specs.declared.Card.{Card}
 use Rattle.states.specs.declared.Outgoing.{Outgoing}
 use Rattle.states.specs.declared.Outgoing.the-variants.{One, Many, Protection as Bits}
 use Rattle.states.specs.declared.State.{State}

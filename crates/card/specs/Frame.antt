@@ -10,13 +10,12 @@ use Rattle.card.specs.Replies.{replied, refused}
 use Rattle.card.specs.declared.FrameJudged.{FrameJudged}
 use Rattle.card.specs.declared.Outcome.the-variants.{Done}
 use Rattle.card.specs.declared.Stepped.{Stepped}
-use Rattle.command.specs.Command.{damagedLink, commandOf}
+use Rattle.command.specs.Command.{metBy, damagedLink, commandOf}
 use Rattle.command.specs.declared.Change.{Change}
 use Rattle.command.specs.declared.Change.the-variants.{Nothing, Protect, Erase}
 use Rattle.command.specs.declared.Commanded.{Commanded}
-use Rattle.command.specs.declared.Met.{Met}
-use Rattle.record.specs.Record.{csdProtects, withErrors, withLink}
-use Rattle.record.specs.declared.Card.{Card}
+use Rattle.card_record.specs.Record.{csdProtects, withErrors, withLink}
+use Rattle.card_record.specs.declared.Card.{Card}
 use Rattle.status.specs.ErrorBits.{errorBit}
 use Rattle.status.specs.Status.{withBit}
 use Rattle.store.specs.Erase.{erased, anySpared}
@@ -24,10 +23,6 @@ use Rattle.store.specs.Map.{lentRight, groupSet}
 use Rattle.wire.specs.Frames.{framingOf}
 use Rattle.wire.specs.declared.Framing.{Framing}
 use Rattle.wire.specs.declared.Framing.the-variants.{Framed, Unframed}
-
--- "In its own call a card is alone on the line, so CMD2 wins"
-abbrev pub metAlone : Card → Met
-metAlone card = record { ocr = card .registers .ocr; groups = card .registers .groups; locked = card .lock .locked; wins = true }
 
 -- a frame refused: nothing changes in what is lent
 abbrev pub frameRefused : Card → Refusal → FrameJudged
@@ -37,17 +32,18 @@ frameRefused card refusal = record { stepped = refused card refusal; change = No
 abbrev pub commanded : Card → Commanded → FrameJudged
 commanded card given = record { stepped = replied (withLink card (given .link)) Done (given .sent); change = given .change }
 
--- 1 and 2, which "change nothing"; 3, with bit 23; then the command
-abbrev pub framed : Card → Framing → FrameJudged
-framed card (Unframed refusal) = frameRefused card refusal
-framed card (Framed index argument right) =
+-- 1 and 2, which "change nothing"; 3, with bit 23; then the command. "In its own call a card is alone on the line, so CMD2 wins"; a card
+-- that shares its line is told whether it won
+abbrev pub framed : Card → Bool → Framing → FrameJudged
+framed card wins (Unframed refusal) = frameRefused card refusal
+framed card wins (Framed index argument right) =
     unless right (frameRefused (withLink card (damagedLink (card .link))) (by 3))
-    (commanded card (commandOf (card .link) (metAlone card) index argument))
+    (commanded card (commandOf (card .link) (metBy card wins) index argument))
 
 -- a frame judged, from the lengths of what is lent and the map
-unfoldable pub frameJudged : Card → List ℕ → ℕ → List ℕ → FrameJudged
-frameJudged card frame memory map =
-    unless (lentRight memory map (card .registers .groups)) (frameRefused card (by 12)) (framed card (framingOf frame))
+unfoldable pub frameJudged : Card → Bool → List ℕ → ℕ → List ℕ → FrameJudged
+frameJudged card wins frame memory map =
+    unless (lentRight memory map (card .registers .groups)) (frameRefused card (by 12)) (framed card wins (framingOf frame))
 
 -- CMD38 "sets bit 15 if any was spared": it waits for the next R1
 abbrev pub spares : Card → ℕ → List ℕ → Change → Bool
@@ -62,9 +58,9 @@ sparedTold stepped true =
 sparedTold stepped false = stepped
 
 -- a frame at a card of this record, lent a memory of so many bytes and this map
-unfoldable pub frameOf : Card → List ℕ → ℕ → List ℕ → Stepped
-frameOf card frame memory map =
-    sparedTold (frameJudged card frame memory map .stepped) (spares card memory map (frameJudged card frame memory map .change))
+unfoldable pub frameStepped : Card → Bool → List ℕ → ℕ → List ℕ → Stepped
+frameStepped card wins frame memory map =
+    sparedTold (frameJudged card wins frame memory map .stepped) (spares card memory map (frameJudged card wins frame memory map .change))
 
 -- the contents afterwards: "fills every tagged sector outside protection"
 abbrev pub erasedBy : Card → List ℕ → List ℕ → Change → List ℕ

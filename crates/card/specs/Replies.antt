@@ -6,7 +6,7 @@ use Rattle.card.specs.declared.Outcome.the-variants.{Done, Refused}
 use Rattle.card.specs.declared.Stepped.{Stepped}
 use Rattle.command.specs.declared.Sent.{Sent}
 use Rattle.command.specs.declared.Sent.the-variants.{Nothing}
-use Rattle.record.specs.declared.Card.{Card}
+use Rattle.card_record.specs.declared.Card.{Card}
 
 -- the next record, what became of the call, and what the card sends
 abbrev pub replied : Card → Outcome → Sent → Stepped

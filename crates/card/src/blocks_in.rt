@@ -6,9 +6,10 @@ use crate::Storing;
 use crate::replies::done;
 use crate::replies::refuse;
 use base::Refusal;
+use base::SECTOR;
+use card_record::Card;
+use card_record::Link;
 use lock::Answer;
-use record::Card;
-use record::Link;
 use states::Incoming;
 use states::State;
 use status::ErrorBit;
@@ -20,14 +21,17 @@ ghost use Prim.Native.Nat.{min};
 ghost use lib.ListN.{length};
 ghost use Rattle.card.specs.BlockIn.{awaitedLength, afterRefused, afterStored, withFault, blockRefused, blockGood, writeJudged, requestJudged, carriedOut, awaitedJudged, unread, stateJudged, blockJudged, keptOf, keptLength, keptFor, storedBy, clearedBy};
 
+// The bytes of a sector, as a length.
+const SECTOR_LENGTH: usize = SECTOR as usize;
+
 // The bytes that are awaited.
 fn awaited_length(card: Card, incoming: Incoming) -> usize
     ensures answer { λ r. ⌜ r ≡ awaitedLength card incoming ⌝ }
 {
     match incoming {
-        Incoming::One(_) => 512,
-        Incoming::Many(_) => 512,
-        Incoming::LockRequest => record::read_length(card.link.length) as usize,
+        Incoming::One(_) => SECTOR_LENGTH,
+        Incoming::Many(_) => SECTOR_LENGTH,
+        Incoming::LockRequest => card_record::read_length(card.link.length) as usize,
     }
 }
 
@@ -101,7 +105,7 @@ fn write_judged(card: Card, incoming: Incoming, sector: u32, map: &[u8]) -> Bloc
     ensures { λ r. ⌜ r ≡ writeJudged card incoming sector (now (map .entry)) ⌝ }
 {
     let registers = card.registers;
-    if record::size(registers.groups) / 512 <= sector {
+    if card_record::size(registers.groups) / SECTOR <= sector {
         return block_refused(
             card,
             incoming,
@@ -110,7 +114,7 @@ fn write_judged(card: Card, incoming: Incoming, sector: u32, map: &[u8]) -> Bloc
         );
     }
     let csd = registers.csd;
-    let whole = record::csd_protects(csd);
+    let whole = card_record::csd_protects(csd);
     if store::protected(map, sector, whole) {
         return block_refused(
             card,
@@ -119,7 +123,7 @@ fn write_judged(card: Card, incoming: Incoming, sector: u32, map: &[u8]) -> Bloc
             Fault::Bit(ErrorBit::WpViolation),
         );
     }
-    let state = after_stored(incoming, sector * 512 + 512);
+    let state = after_stored(incoming, sector * SECTOR + SECTOR);
     block_good(card, state, Storing::Sector(sector))
 }
 
@@ -129,7 +133,7 @@ fn lock_judged(card: Card, payload: &[u8]) -> BlockJudged
 {
     let registers = card.registers;
     let csd = registers.csd;
-    let whole = record::csd_protects(csd);
+    let whole = card_record::csd_protects(csd);
     let lock = card.lock;
     let requested = lock::request(lock, payload, whole);
     let changed = requested.lock;
@@ -155,8 +159,8 @@ fn carried_out(card: Card, incoming: Incoming, payload: &[u8], map: &[u8]) -> Bl
     ensures { λ r. ⌜ r ≡ carriedOut card incoming (now (payload .entry)) (now (map .entry)) ⌝ }
 {
     match incoming {
-        Incoming::One(at) => write_judged(card, incoming, at / 512, map),
-        Incoming::Many(at) => write_judged(card, incoming, at / 512, map),
+        Incoming::One(at) => write_judged(card, incoming, at / SECTOR, map),
+        Incoming::Many(at) => write_judged(card, incoming, at / SECTOR, map),
         Incoming::LockRequest => lock_judged(card, payload),
     }
 }
@@ -224,10 +228,10 @@ fn judge(card: Card, block: &[u8], memory: usize, map: &[u8]) -> BlockJudged
 fn sector_part(length: usize) -> usize
     ensures { λ r. ⌜ r ≡ min length 512 ⌝ }
 {
-    if length < 512 {
+    if length < SECTOR_LENGTH {
         return length;
     }
-    512
+    SECTOR_LENGTH
 }
 
 // How many bytes of a block are kept until they are stored: none where no sector is to be stored.

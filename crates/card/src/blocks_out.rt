@@ -6,9 +6,9 @@ use crate::Sending;
 use crate::Stepped;
 use crate::replies::refuse;
 use base::Refusal;
+use card_record::Card;
+use card_record::Link;
 use command::Sent;
-use record::Card;
-use record::Link;
 use states::Outgoing;
 use states::State;
 use status::ErrorBit;
@@ -79,7 +79,7 @@ fn part_judged(card: Card, outgoing: Outgoing, at: u32, n: u16, room: usize) -> 
     if room < n as usize + 2 {
         return unsent(card, Refusal::OutputShort);
     }
-    let size = record::size(card.registers.groups);
+    let size = card_record::size(card.registers.groups);
     let more = n as u32;
     if size < more {
         return out_refused(card, Refusal::PastEnd, ErrorBit::OutOfRange);
@@ -87,7 +87,7 @@ fn part_judged(card: Card, outgoing: Outgoing, at: u32, n: u16, room: usize) -> 
     if size - more < at {
         return out_refused(card, Refusal::PastEnd, ErrorBit::OutOfRange);
     }
-    if record::crosses(at, n) {
+    if card_record::crosses(at, n) {
         return out_refused(card, Refusal::BlockCrosses, ErrorBit::AddressError);
     }
     let state = after_sent(outgoing, at + more);
@@ -107,7 +107,7 @@ fn protection_judged(card: Card, group: u32, room: usize) -> OutJudged
 fn outgoing_judged(card: Card, outgoing: Outgoing, room: usize) -> OutJudged
     ensures { λ r. ⌜ r ≡ outgoingJudged card outgoing room ⌝ }
 {
-    let n = record::read_length(card.link.length);
+    let n = card_record::read_length(card.link.length);
     match outgoing {
         Outgoing::One(at) => part_judged(card, outgoing, at, n, room),
         Outgoing::Many(at) => part_judged(card, outgoing, at, n, room),

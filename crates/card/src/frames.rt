@@ -5,17 +5,17 @@ use crate::Reply;
 use crate::Stepped;
 use crate::replies::refuse;
 use base::Refusal;
+use card_record::Card;
+use card_record::Link;
 use command::Change;
 use command::Met;
-use record::Card;
-use record::Link;
 use status::ErrorBit;
 use wire::Framing;
 ghost use mathlib.Core.Path.{_≡_};
 ghost use lib.ListN.{length};
-ghost use Rattle.card.specs.Frame.{frameRefused, commanded, frameJudged, sparedTold, frameOf, erasedBy, protectedBy, metAlone};
-ghost use Rattle.command.specs.Command.{damagedLink, commandOf};
-ghost use Rattle.record.specs.Record.{withLink};
+ghost use Rattle.card.specs.Frame.{frameRefused, commanded, frameJudged, sparedTold, frameStepped, erasedBy, protectedBy};
+ghost use Rattle.command.specs.Command.{metBy, damagedLink, commandOf};
+ghost use Rattle.card_record.specs.Record.{withLink};
 
 fn unheard(card: Card, refusal: Refusal) -> FrameJudged
     ensures { λ r. ⌜ r ≡ frameRefused card refusal ⌝ }
@@ -26,15 +26,15 @@ fn unheard(card: Card, refusal: Refusal) -> FrameJudged
     }
 }
 
-// A command in the card's own call, where it is alone on the line.
-fn heard(card: Card, index: u8, argument: u32) -> FrameJudged
-    ensures { λ r. ⌜ r ≡ commanded card (commandOf (card .link) (metAlone card) index argument) ⌝ }
+// A command at a card that would win the line in CMD2, or would not.
+fn heard(card: Card, wins: bool, index: u8, argument: u32) -> FrameJudged
+    ensures { λ r. ⌜ r ≡ commanded card (commandOf (card .link) (metBy card wins) index argument) ⌝ }
 {
     let met = Met {
         ocr: card.registers.ocr,
         groups: card.registers.groups,
         locked: card.lock.locked,
-        wins: true,
+        wins,
     };
     let link = card.link;
     let given = command::command(link, met, index, argument);
@@ -64,8 +64,8 @@ fn damaged(card: Card) -> Card
 }
 
 // A frame judged: memory's contents are no argument, its length is.
-fn judge(card: Card, frame: &[u8], memory: usize, map: &[u8]) -> FrameJudged
-    ensures { λ r. ⌜ r ≡ frameJudged card (now (frame .entry)) memory (now (map .entry)) ⌝ }
+fn judge(card: Card, wins: bool, frame: &[u8], memory: usize, map: &[u8]) -> FrameJudged
+    ensures { λ r. ⌜ r ≡ frameJudged card wins (now (frame .entry)) memory (now (map .entry)) ⌝ }
 {
     if !store::lent_right(memory, map, card.registers.groups as usize) {
         return unheard(card, Refusal::Lent);
@@ -78,7 +78,7 @@ fn judge(card: Card, frame: &[u8], memory: usize, map: &[u8]) -> FrameJudged
             crc_right,
         } => {
             if crc_right {
-                heard(card, index, argument)
+                heard(card, wins, index, argument)
             } else {
                 unheard(damaged(card), Refusal::FrameCrc)
             }
@@ -109,13 +109,14 @@ fn tell_spared(stepped: Stepped, spared: bool) -> Stepped
     }
 }
 
-// A frame at a card: judged, and then carried out on what is lent.
-pub fn frame(card: Card, frame: &[u8], memory: &mut [u8], map: &mut [u8]) -> Stepped
-    ensures answer { λ r. ⌜ r ≡ frameOf card (now (frame .entry)) (length (now (memory .entry))) (now (map .entry)) ⌝ }
-    ensures memory { λ _. ⌜ now (memory .exit) ≡ erasedBy card (now (memory .entry)) (now (map .entry)) (frameJudged card (now (frame .entry)) (length (now (memory .entry))) (now (map .entry)) .change) ⌝ }
-    ensures map { λ _. ⌜ now (map .exit) ≡ protectedBy (now (map .entry)) (frameJudged card (now (frame .entry)) (length (now (memory .entry))) (now (map .entry)) .change) ⌝ }
+// A frame at a card: judged, and then carried out on what is lent. A card that is alone on its line wins
+// CMD2; one that shares it is told whether its CID was heard to the last bit.
+pub fn frame(card: Card, wins: bool, frame: &[u8], memory: &mut [u8], map: &mut [u8]) -> Stepped
+    ensures answer { λ r. ⌜ r ≡ frameStepped card wins (now (frame .entry)) (length (now (memory .entry))) (now (map .entry)) ⌝ }
+    ensures memory { λ _. ⌜ now (memory .exit) ≡ erasedBy card (now (memory .entry)) (now (map .entry)) (frameJudged card wins (now (frame .entry)) (length (now (memory .entry))) (now (map .entry)) .change) ⌝ }
+    ensures map { λ _. ⌜ now (map .exit) ≡ protectedBy (now (map .entry)) (frameJudged card wins (now (frame .entry)) (length (now (memory .entry))) (now (map .entry)) .change) ⌝ }
 {
-    let judged = judge(card, frame, memory.len(), map);
+    let judged = judge(card, wins, frame, memory.len(), map);
     let stepped = judged.stepped;
     let change = judged.change;
     match change {
@@ -127,7 +128,7 @@ pub fn frame(card: Card, frame: &[u8], memory: &mut [u8], map: &mut [u8]) -> Ste
         Change::Erase => {
             let registers = card.registers;
             let csd = registers.csd;
-            let whole = record::csd_protects(csd);
+            let whole = card_record::csd_protects(csd);
             let link = card.link;
             let tags = link.tags;
             let spared = store::erase(memory, map, tags, whole);

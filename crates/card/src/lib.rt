@@ -13,10 +13,10 @@ mod replies;
 use base::Refusal;
 pub use blocks_in::block_in;
 pub use blocks_out::block_out;
+use card_record::Card;
 use command::Change;
 use command::Sent;
 pub use frames::frame;
-use record::Card;
 use replies::done;
 ghost use mathlib.Core.Path.{_≡_};
 ghost use lib.ListN.{length};
@@ -74,9 +74,10 @@ pub struct FrameJudged {
     pub change: Change,
 }
 
-// Everything that can happen to a made card.
+// Everything that can happen to a made card. A frame comes with whether the card wins the line in CMD2: one
+// that is alone on it does.
 pub enum Call {
-    Frame,
+    Frame { wins: bool },
     BlockIn,
     BlockOut,
     WorkDone,
@@ -98,10 +99,10 @@ pub fn step(
     ensures output { λ _. ⌜ now (out .exit) ≡ outputOf card call (now (memory .entry)) (now (map .entry)) (now (out .entry)) ⌝ }
 {
     match call {
-        Call::Frame => frame(card, input, memory, map),
+        Call::Frame { wins } => frame(card, wins, input, memory, map),
         Call::BlockIn => block_in(card, input, memory, map),
         Call::BlockOut => block_out(card, memory, map, out),
-        Call::WorkDone => done(record::work_done(card)),
-        Call::PowerOn => done(record::power_on(card)),
+        Call::WorkDone => done(card_record::work_done(card)),
+        Call::PowerOn => done(card_record::power_on(card)),
     }
 }

@@ -3,8 +3,8 @@ use crate::Outcome;
 use crate::Reply;
 use crate::Stepped;
 use base::Refusal;
+use card_record::Card;
 use command::Sent;
-use record::Card;
 ghost use mathlib.Core.Path.{_≡_};
 ghost use Rattle.card.specs.Replies.{refused, done};
 

@@ -1,3 +1,4 @@
 pub mod Sends
+pub mod Verdict
 pub mod WrongAnswers
 pub mod WrongSends

@@ -18,7 +18,7 @@ use Rattle.base.specs.declared.Refusal.{Refusal}
 use Rattle.base.specs.declared.Written.{Written}
 use Rattle.base.specs.declared.Written.the-variants.{Bytes, Refused as NotWritten}
 use Rattle.command.specs.Answers.{responseOf, sentOf, answered}
-use Rattle.command.specs.Command.{askedOf, concluded, takenOf, movedBy, commandOf}
+use Rattle.command.specs.Command.{receivedOf, concluded, takenOf, movedBy, commandOf}
 use Rattle.command.specs.declared.Met.{Met}
 use Rattle.command.specs.declared.Response.{Response}
 use Rattle.command.specs.declared.Response.the-variants.{Nothing as NoResponse, R1, R2, R3}
@@ -26,12 +26,12 @@ use Rattle.command.specs.declared.Sent.{Sent}
 use Rattle.command.specs.declared.Sent.the-variants.{Nothing, Status, Cid, Csd, Ocr}
 use Rattle.moves.specs.Moves.{moveOf}
 use Rattle.moves.specs.Rows.{rowOf}
-use Rattle.moves.specs.declared.Asked.{Asked}
+use Rattle.moves.specs.declared.Received.{Received}
 use Rattle.moves.specs.declared.Move.{Move}
 use Rattle.moves.specs.declared.Move.the-variants.{Ignored, Silent, Illegal, To}
 use Rattle.moves.specs.declared.Row.{Row}
-use Rattle.record.specs.declared.Link.{Link}
-use Rattle.record.specs.declared.Registers.{Registers}
+use Rattle.card_record.specs.declared.Link.{Link}
+use Rattle.card_record.specs.declared.Registers.{Registers}
 use Rattle.states.specs.States.{columnOf}
 use Rattle.states.specs.declared.Column.{Column}
 use Rattle.status.specs.declared.Fault.{Fault}
@@ -48,7 +48,7 @@ sent-sendable R1 index status h = h
 sent-sendable R2 index status h = cases (eqb index 9) (λ (t : eqb index 9 ≡ true). rw t tt) (λ (t : eqb index 9 ≡ false). rw t tt)
 sent-sendable R3 index status h = tt
 
-module _ (link : Link) (met : Met) (asked : Asked) (row : Row) (h : asked .index ≤ 63) where
+module _ (link : Link) (met : Met) (asked : Received) (row : Row) (h : asked .index ≤ 63) where
   concluded-sendable : (column : Column) (tags : Tags) (fault : Fault) → Sendable (concluded link met asked row column tags fault .sent)
   unfolding concluded answered
   concluded-sendable column tags None = sent-sendable (responseOf row) (asked .index) _ h
@@ -70,7 +70,7 @@ module _ (link : Link) (met : Met) (asked : Asked) (row : Row) (h : asked .index
 pub sendable : (link : Link) (met : Met) (index argument : ℕ) → index ≤ 63 → Sendable (commandOf link met index argument .sent)
 unfolding commandOf
 sendable link met index argument h =
-    let asked : Asked = askedOf link met index argument in
+    let asked : Received = receivedOf link met index argument in
     moved-sendable link met asked (rowOf asked) h (moveOf (rowOf asked) (columnOf (link .state)))
 
 -- ---- what is written

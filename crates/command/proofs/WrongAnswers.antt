@@ -44,8 +44,8 @@ use Rattle.base.proofs.Cases.{clash}
 use Rattle.moves.specs.Classes.{classOf}
 use Rattle.moves.specs.Moves.{moveOf}
 use Rattle.moves.specs.Rows.{rowOf, transferRow}
-use Rattle.record.specs.Power.{freshLink}
-use Rattle.record.specs.declared.Link.{Link}
+use Rattle.card_record.specs.Power.{freshLink}
+use Rattle.card_record.specs.declared.Link.{Link}
 use Rattle.states.specs.declared.Column.the-variants.{Stby as ToStby, Data as ToData}
 use Rattle.states.specs.declared.Outgoing.the-variants.{One, Many}
 use Rattle.states.specs.declared.State.{State}

@@ -10,7 +10,7 @@ use native.Mathlib.Omega.{arith}
 use lib.ListN.{length, getD, replicate}
 use Rattle.base.proofs.Cases.{clash}
 use Rattle.base.specs.declared.Written.the-variants.{Bytes}
-use Rattle.record.specs.declared.Registers.{Registers}
+use Rattle.card_record.specs.declared.Registers.{Registers}
 use Rattle.wire.specs.Responses.{r2Frame, r3Frame}
 use Rattle.command.specs.Sending.{sentBytes, sentWritten}
 use Rattle.command.specs.declared.Sent.the-variants.{Nothing, Status, Cid, Csd, Ocr}

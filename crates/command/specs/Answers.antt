@@ -8,10 +8,10 @@ use Rattle.base.specs.Choice.{pick}
 use Rattle.moves.specs.Moves.{inRow}
 use Rattle.moves.specs.declared.Row.{Row}
 use Rattle.moves.specs.declared.Row.the-variants.{OpCondAsked, OpCondShared, AllSendCidWon, SetRelativeAddr, SelectCard, SendRegister, StopTransmission, SendStatus, SetOrTag, Read, Write, Program}
-use Rattle.record.specs.Record.{withErrors}
-use Rattle.record.specs.declared.Link.{Link}
+use Rattle.card_record.specs.Record.{withErrors}
+use Rattle.card_record.specs.declared.Link.{Link}
 use Rattle.states.specs.declared.Column.{Column}
-use Rattle.status.specs.Status.{noErrors, takenOf, wordOf}
+use Rattle.status.specs.Status.{noErrors, commandBitsCleared, wordOf}
 use Rattle.status.specs.declared.Errors.{Errors}
 use Rattle.command.specs.declared.Change.{Change}
 use Rattle.command.specs.declared.Change.the-variants.{Nothing as Unchanged}
@@ -47,10 +47,10 @@ sentOf R3 index status = Ocr
 
 -- "R1 reports pending bits and those its command sets at once, then clears them .. Other taken commands clear bits 23 and 22 only"
 abbrev pub leftOf : Response → Errors → Errors
-leftOf NoResponse errors = takenOf errors
+leftOf NoResponse errors = commandBitsCleared errors
 leftOf R1 errors = noErrors
-leftOf R2 errors = takenOf errors
-leftOf R3 errors = takenOf errors
+leftOf R2 errors = commandBitsCleared errors
+leftOf R3 errors = commandBitsCleared errors
 
 -- silent: nothing sent, nothing changed in what is lent
 abbrev pub silent : Link → Commanded

@@ -6,11 +6,13 @@ use mathlib.Core.List.{[], _∷_}
 use Prim.Native.Nat.{ℕ, _+_, _/_, _%_}
 use lib.Dec.{eqb, leb, ltb}
 use Rattle.base.specs.Choice.{pick, unless}
+use Rattle.base.specs.Sizes.{sectorSize}
 use Rattle.moves.specs.Indices.{among}
-use Rattle.record.specs.Record.{longest, crosses}
+use Rattle.card_record.specs.Record.{crosses}
 use Rattle.status.specs.ErrorBits.{errorBit}
 use Rattle.status.specs.declared.Fault.{Fault}
 use Rattle.status.specs.declared.Fault.the-variants.{None, Bit}
+use Rattle.wire.specs.Blocks.{longestBlock}
 
 -- 3: "address 0: bit 31, stays"
 abbrev pub addressFault : ℕ → Fault
@@ -18,7 +20,7 @@ addressFault argument = unless (leb 1 (argument / 65536)) (Bit (errorBit 31)) No
 
 -- "CMD16: length 1 to 2,048, else bit 29"
 abbrev pub lengthFault : ℕ → Fault
-lengthFault argument = unless (leb 1 argument) (Bit (errorBit 29)) (unless (leb argument longest) (Bit (errorBit 29)) None)
+lengthFault argument = unless (leb 1 argument) (Bit (errorBit 29)) (unless (leb argument longestBlock) (Bit (errorBit 29)) None)
 
 -- "CMD17, 18: block past the end, bit 31; else crossing a multiple of 2,048, bit 30"
 abbrev pub readFault : ℕ → ℕ → ℕ → Fault
@@ -28,8 +30,8 @@ readFault argument length size =
 -- "CMD24, 25: length must be 512 (bit 29), then in range (31), then aligned to 512 (30)": the whole block is in range
 abbrev pub writeFault : ℕ → ℕ → ℕ → Fault
 writeFault argument length size =
-    unless (eqb length 512) (Bit (errorBit 29))
-    (unless (leb (argument + 512) size) (Bit (errorBit 31)) (unless (eqb (argument % 512) 0) (Bit (errorBit 30)) None))
+    unless (eqb length sectorSize) (Bit (errorBit 29))
+    (unless (leb (argument + sectorSize) size) (Bit (errorBit 31)) (unless (eqb (argument % sectorSize) 0) (Bit (errorBit 30)) None))
 
 -- "For CMD28 to 30 an address past the end: bit 31"
 abbrev pub groupFault : ℕ → ℕ → Fault

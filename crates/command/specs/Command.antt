@@ -1,18 +1,20 @@
 -- Document 01, "How a card takes a frame": the six checks in order, from check 1 on, and the legal moves.
 -- Assumes nothing.
+use mathlib.Core.Bool.{Bool}
 use Prim.Native.Nat.{ℕ}
 use lib.Dec.{eqb}
 use Rattle.base.specs.Choice.{pick, unless}
 use Rattle.moves.specs.Moves.{moveOf}
 use Rattle.moves.specs.Rows.{rowOf}
-use Rattle.moves.specs.declared.Asked.{Asked}
+use Rattle.moves.specs.declared.Received.{Received}
 use Rattle.moves.specs.declared.Move.{Move}
 use Rattle.moves.specs.declared.Move.the-variants.{Ignored, Silent, Illegal, To}
 use Rattle.moves.specs.declared.Row.{Row}
-use Rattle.record.specs.Power.{freshLink}
-use Rattle.record.specs.Record.{withErrors, withTags}
-use Rattle.record.specs.declared.Link.{Link}
-use Rattle.states.specs.States.{columnOf, numberOf}
+use Rattle.card_record.specs.Power.{freshLink}
+use Rattle.card_record.specs.Record.{withErrors, withTags}
+use Rattle.card_record.specs.declared.Card.{Card}
+use Rattle.card_record.specs.declared.Link.{Link}
+use Rattle.states.specs.States.{columnOf, columnNumber}
 use Rattle.states.specs.declared.Column.{Column}
 use Rattle.status.specs.ErrorBits.{errorBit}
 use Rattle.status.specs.Status.{withBit}
@@ -27,14 +29,19 @@ use Rattle.command.specs.declared.Change.the-variants.{Nothing as Unchan
 use Rattle.command.specs.declared.Commanded.{Commanded}
 use Rattle.command.specs.declared.Met.{Met}
 
+-- what a command meets at a card, beside its link: in CMD2 the card "wins", or is "a loser". "In its own call a card is alone on the line, so
+-- CMD2 wins"; on a shared line it does if its CID is heard to the last bit
+abbrev pub metBy : Card → Bool → Met
+metBy card wins = record { ocr = card .registers .ocr; groups = card .registers .groups; locked = card .lock .locked; wins = wins }
+
 -- a command as it meets a card
-abbrev pub askedOf : Link → Met → ℕ → ℕ → Asked
-askedOf link met index argument =
+abbrev pub receivedOf : Link → Met → ℕ → ℕ → Received
+receivedOf link met index argument =
     record { index = index; argument = argument; address = link .address; ocr = met .ocr; wins = met .wins }
 
 -- check 2: "CRC7 wrong: silent, bit 23 set", and "3 sets bit 23 of the card .. unless Inactive"
 unfoldable pub damagedLink : Link → Link
-damagedLink link = pick (eqb (numberOf (columnOf (link .state))) 9) link (withErrors link (withBit (link .errors) (errorBit 23)))
+damagedLink link = pick (eqb (columnNumber (columnOf (link .state))) 9) link (withErrors link (withBit (link .errors) (errorBit 23)))
 
 -- the pending error bits, with 13 where the command "drops existing tags and sets bit 13"
 unfoldable pub resetTold : Link → ℕ → Errors
@@ -42,7 +49,7 @@ resetTold link index =
     unless (dropsTags index) (link .errors) (unless (anyOf (link .tags)) (link .errors) (withBit (link .errors) (errorBit 13)))
 
 -- after checks 5 and 6. With an error: "R1 with the bit, no move"; without: the command is obeyed
-unfoldable pub concluded : Link → Met → Asked → Row → Column → Tags → Fault → Commanded
+unfoldable pub concluded : Link → Met → Received → Row → Column → Tags → Fault → Commanded
 concluded link met asked row column tags None =
     answered (obeyed link (asked .index) (asked .argument) column tags) (resetTold link (asked .index)) (responseOf row) (asked .index)
     (met .locked) (columnOf (link .state)) (changeOf (asked .index) (asked .argument))
@@ -51,14 +58,14 @@ concluded link met asked row column tags (Bit bit) =
     (columnOf (link .state)) Unchanged
 
 -- a taken command. "CMD0 .. silent .. does the same" as power-on "but keeps the lock flag"
-unfoldable pub takenOf : Link → Met → Asked → Row → Column → Commanded
+unfoldable pub takenOf : Link → Met → Received → Row → Column → Commanded
 takenOf link met asked row column =
     pick (eqb (asked .index) 0) (silent freshLink)
     (concluded link met asked row column (judgedOf link (met .groups) (met .locked) (asked .index) (asked .argument) .tags)
     (judgedOf link (met .groups) (met .locked) (asked .index) (asked .argument) .error))
 
 -- checks 1, 3 and 4, which the table's marks stand for: ignored and silent change nothing, illegal is "silent with bit 22"
-abbrev pub movedBy : Link → Met → Asked → Row → Move → Commanded
+abbrev pub movedBy : Link → Met → Received → Row → Move → Commanded
 movedBy link met asked row Ignored = silent link
 movedBy link met asked row Silent = silent link
 movedBy link met asked row Illegal = silent (withErrors link (withBit (link .errors) (errorBit 22)))
@@ -67,5 +74,5 @@ movedBy link met asked row (To column) = takenOf link met asked row column
 -- a command of an index and an argument at a card
 unfoldable pub commandOf : Link → Met → ℕ → ℕ → Commanded
 commandOf link met index argument =
-    movedBy link met (askedOf link met index argument) (rowOf (askedOf link met index argument))
-    (moveOf (rowOf (askedOf link met index argument)) (columnOf (link .state)))
+    movedBy link met (receivedOf link met index argument) (rowOf (receivedOf link met index argument))
+    (moveOf (rowOf (receivedOf link met index argument)) (columnOf (link .state)))

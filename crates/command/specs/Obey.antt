@@ -5,10 +5,11 @@ use mathlib.Core.List.{[], _∷_}
 use Prim.Native.Nat.{ℕ, _/_, _%_}
 use lib.Dec.{eqb}
 use Rattle.base.specs.Choice.{pick, unless}
+use Rattle.base.specs.Sizes.{protectionGroupSize}
 use Rattle.moves.specs.Classes.{classOf, classNumber}
 use Rattle.moves.specs.Indices.{among}
-use Rattle.record.specs.Record.{sizeOf, lengthRead}
-use Rattle.record.specs.declared.Link.{Link}
+use Rattle.card_record.specs.Record.{sizeOf, lengthRead}
+use Rattle.card_record.specs.declared.Link.{Link}
 use Rattle.states.specs.declared.Column.{Column}
 use Rattle.states.specs.declared.Column.the-variants.{Idle as ToIdle, Ready as ToReady, Ident as ToIdent, Stby as ToStby, Tran as ToTran, Data as ToData, Rcv as ToRcv, Prg as ToPrg, Dis as ToDis, Ina as ToIna}
 use Rattle.states.specs.declared.Incoming.the-variants.{One as OneIn, Many as ManyIn, LockRequest}
@@ -17,13 +18,10 @@ use Rattle.states.specs.declared.State.{State}
 use Rattle.states.specs.declared.State.the-variants.{Idle, Ready, Ident, Stby, Tran, Data, Rcv, Prg, Dis, Ina}
 use Rattle.status.specs.ErrorBits.{errorBit}
 use Rattle.status.specs.declared.Fault.the-variants.{None}
-use Rattle.tags.specs.Tagging.{noTags, failed, startTagged, endTagged}
-use Rattle.tags.specs.Tags.{eraseOf}
+use Rattle.tags.specs.Tagging.{noTags, isComplete, tagFailed, startTagged, endTagged}
 use Rattle.tags.specs.declared.Kind.the-variants.{Sectors, Groups}
 use Rattle.tags.specs.declared.Tagging.{Tagging}
 use Rattle.tags.specs.declared.Tags.{Tags}
-use Rattle.tags.specs.declared.ToErase.{ToErase}
-use Rattle.tags.specs.declared.ToErase.the-variants.{Sectors as FromTo, Error}
 use Rattle.command.specs.Arguments.{argumentFault}
 use Rattle.command.specs.declared.Change.{Change}
 use Rattle.command.specs.declared.Change.the-variants.{Nothing, Protect, Erase}
@@ -41,12 +39,8 @@ abbrev pub leaving : Tags → Tagging
 leaving tags = record { tags = tags; error = None }
 
 -- "CMD38 needs both (28) .. drops tags"
-abbrev pub erasing : ToErase → Tagging
-erasing (FromTo first last) = leaving noTags
-erasing (Error bit) = failed bit
-
 abbrev pub eraseTagging : Tags → Tagging
-eraseTagging tags = erasing (eraseOf tags)
+eraseTagging tags = unless (isComplete tags) (tagFailed (errorBit 28)) (leaving noTags)
 
 -- the tags that a command leaves, with the error in its argument: "CMD32, 35 tag a start; 33, 36 an end", CMD38 erases, CMD13 keeps tags,
 -- and any other command drops them, with an error or without
@@ -63,7 +57,7 @@ taggingOf link size index argument =
 -- checks 5 and 6, in this order: "others answer R1 with bit 24, no move". Tags go there too, in 32 to 38 as in the others
 unfoldable pub judgedOf : Link → ℕ → Bool → ℕ → ℕ → Tagging
 judgedOf link groups locked index argument =
-    unless (passesLock locked index) (failed (errorBit 24)) (taggingOf link (sizeOf groups) index argument)
+    unless (passesLock locked index) (tagFailed (errorBit 24)) (taggingOf link (sizeOf groups) index argument)
 
 -- the state that a column of the table stands for: "Data states carry what they wait for", so there it is the one that carries the work
 abbrev pub stateAt : Column → State → State
@@ -86,7 +80,7 @@ awaitedBy index argument state =
     (pick (among index (18 ∷ [])) (Data (ManyOut argument))
     (pick (among index (24 ∷ [])) (Rcv (OneIn argument))
     (pick (among index (25 ∷ [])) (Rcv (ManyIn argument))
-    (pick (among index (30 ∷ [])) (Data (Protection (argument / 8192)))
+    (pick (among index (30 ∷ [])) (Data (Protection (argument / protectionGroupSize)))
     (pick (among index (42 ∷ [])) (Rcv LockRequest) state)))))
 
 -- 3: "address taken"
@@ -111,6 +105,6 @@ obeyed link index argument column tags =
 -- "CMD28, 29: set, clear the addressed group"; "CMD38 .. fills every tagged sector outside protection"
 unfoldable pub changeOf : ℕ → ℕ → Change
 changeOf index argument =
-    pick (among index (28 ∷ [])) (Protect (argument / 8192) true)
-    (pick (among index (29 ∷ [])) (Protect (argument / 8192) false)
+    pick (among index (28 ∷ [])) (Protect (argument / protectionGroupSize) true)
+    (pick (among index (29 ∷ [])) (Protect (argument / protectionGroupSize) false)
     (pick (among index (38 ∷ [])) Erase Nothing))

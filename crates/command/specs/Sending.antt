@@ -6,7 +6,7 @@ use Rattle.base.specs.Output.{fits}
 use Rattle.base.specs.declared.Written.{Written}
 use Rattle.command.specs.declared.Sent.{Sent}
 use Rattle.command.specs.declared.Sent.the-variants.{Nothing, Status, Cid, Csd, Ocr}
-use Rattle.record.specs.declared.Registers.{Registers}
+use Rattle.card_record.specs.declared.Registers.{Registers}
 use Rattle.wire.specs.Frames.{indexed}
 use Rattle.wire.specs.Responses.{r1Frame, r2Frame, r3Frame}
 

@@ -7,10 +7,10 @@
 mod obey;
 mod sending;
 
-use moves::Asked;
+use card_record::Link;
 use moves::Move;
+use moves::Received;
 use moves::Row;
-use record::Link;
 pub use sending::write_sent;
 use states::Column;
 use status::ErrorBit;
@@ -115,10 +115,10 @@ fn left(response: Response, errors: Errors) -> Errors
     ensures { λ r. ⌜ r ≡ leftOf response errors ⌝ }
 {
     match response {
-        Response::Nothing => status::taken(errors),
+        Response::Nothing => status::clear_command_bits(errors),
         Response::R1 => status::none(),
-        Response::R2 => status::taken(errors),
-        Response::R3 => status::taken(errors),
+        Response::R2 => status::clear_command_bits(errors),
+        Response::R3 => status::clear_command_bits(errors),
     }
 }
 
@@ -188,7 +188,7 @@ fn answer(
 fn conclude(
     link: Link,
     met: Met,
-    asked: Asked,
+    asked: Received,
     row: Row,
     column: Column,
     judged: Tagging,
@@ -219,11 +219,11 @@ fn conclude(
 }
 
 // A command that has a legal move to a column.
-fn take(link: Link, met: Met, asked: Asked, row: Row, column: Column) -> Commanded
+fn take(link: Link, met: Met, asked: Received, row: Row, column: Column) -> Commanded
     ensures { λ r. ⌜ r ≡ takenOf link met asked row column ⌝ }
 {
     if asked.index == 0 {
-        return silent(record::fresh());
+        return silent(card_record::fresh());
     }
     let judged = obey::judge(link, met.groups, met.locked, asked.index, asked.argument);
     conclude(link, met, asked, row, column, judged)
@@ -233,7 +233,7 @@ fn take(link: Link, met: Met, asked: Asked, row: Row, column: Column) -> Command
 pub fn command(link: Link, met: Met, index: u8, argument: u32) -> Commanded
     ensures answer { λ r. ⌜ r ≡ commandOf link met index argument ⌝ }
 {
-    let asked = Asked {
+    let asked = Received {
         index,
         argument,
         address: link.address,

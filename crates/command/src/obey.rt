@@ -1,8 +1,10 @@
 // What a command does to a card, whatever mode it came in: the checks of the lock and of the
 // argument, the tags that it leaves, the next link, and what it changes in what is lent.
 use crate::Change;
+use base::PROTECTION_GROUP;
+use base::SECTOR;
+use card_record::Link;
 use moves::Class;
-use record::Link;
 use states::Column;
 use states::Incoming;
 use states::Outgoing;
@@ -12,10 +14,17 @@ use status::Fault;
 use tags::Kind;
 use tags::Tagging;
 use tags::Tags;
-use tags::ToErase;
 ghost use mathlib.Core.Path.{_≡_};
 ghost use Rattle.command.specs.Arguments.{lengthFault, readFault, writeFault, groupFault, addressFault, argumentFault};
 ghost use Rattle.command.specs.Obey.{dropsTags, passesLock, eraseTagging, taggingOf, judgedOf, stateAt, awaitedBy, addressAfter, lengthAfter, obeyed, changeOf};
+
+// The sizes of document 01, in the types that they are used in here: a sector as a block's length,
+// and as a part of the memory.
+const LONGEST_BLOCK: u32 = wire::LONGEST_BLOCK as u32;
+
+const SECTOR_LENGTH: u16 = SECTOR as u16;
+
+const SECTOR_SPAN: u64 = SECTOR as u64;
 
 // Whether a command other than the erase commands drops tags.
 pub fn drops_tags(index: u8) -> bool
@@ -62,7 +71,7 @@ fn length_fault(argument: u32) -> Fault
     if argument < 1 {
         return Fault::Bit(ErrorBit::BlockLenError);
     }
-    if 2048 < argument {
+    if LONGEST_BLOCK < argument {
         return Fault::Bit(ErrorBit::BlockLenError);
     }
     Fault::None
@@ -76,7 +85,7 @@ fn read_fault(argument: u32, length: u16, size: u32) -> Fault
     if (size as u64) < end {
         return Fault::Bit(ErrorBit::OutOfRange);
     }
-    if record::crosses(argument, length) {
+    if card_record::crosses(argument, length) {
         return Fault::Bit(ErrorBit::AddressError);
     }
     Fault::None
@@ -86,14 +95,14 @@ fn read_fault(argument: u32, length: u16, size: u32) -> Fault
 fn write_fault(argument: u32, length: u16, size: u32) -> Fault
     ensures { λ r. ⌜ r ≡ writeFault argument length size ⌝ }
 {
-    if length != 512 {
+    if length != SECTOR_LENGTH {
         return Fault::Bit(ErrorBit::BlockLenError);
     }
-    let end = argument as u64 + 512;
+    let end = argument as u64 + SECTOR_SPAN;
     if (size as u64) < end {
         return Fault::Bit(ErrorBit::OutOfRange);
     }
-    if argument % 512 != 0 {
+    if argument % SECTOR != 0 {
         return Fault::Bit(ErrorBit::AddressError);
     }
     Fault::None
@@ -141,16 +150,15 @@ fn argument_fault(index: u8, argument: u32, length: u16, size: u32) -> Fault
 fn erase_tagging(tags: Tags) -> Tagging
     ensures { λ r. ⌜ r ≡ eraseTagging tags ⌝ }
 {
-    let to_erase = tags::to_erase(tags);
-    match to_erase {
-        ToErase::Sectors { first: _, last: _ } => Tagging {
+    if !tags::complete(tags) {
+        return Tagging {
             tags: tags::no_tags(),
-            error: Fault::None,
-        },
-        ToErase::Error(bit) => Tagging {
-            tags: tags::no_tags(),
-            error: Fault::Bit(bit),
-        },
+            error: Fault::Bit(ErrorBit::EraseSeqError),
+        };
+    }
+    Tagging {
+        tags: tags::no_tags(),
+        error: Fault::None,
     }
 }
 
@@ -171,7 +179,7 @@ fn tagging(link: Link, size: u32, index: u8, argument: u32) -> Tagging
         38 => erase_tagging(held),
         _ => Tagging {
             tags: tags::no_tags(),
-            error: argument_fault(index, argument, record::read_length(link.length), size),
+            error: argument_fault(index, argument, card_record::read_length(link.length), size),
         },
     }
 }
@@ -186,7 +194,7 @@ pub fn judge(link: Link, groups: u16, locked: bool, index: u8, argument: u32) ->
             error: Fault::Bit(ErrorBit::LockUnlockFailed),
         };
     }
-    tagging(link, record::size(groups), index, argument)
+    tagging(link, card_record::size(groups), index, argument)
 }
 
 // The state of a column: in data and rcv it is the one that carries the work.
@@ -216,7 +224,7 @@ fn awaited_by(index: u8, argument: u32, state: State) -> State
         18 => State::Data(Outgoing::Many(argument)),
         24 => State::Rcv(Incoming::One(argument)),
         25 => State::Rcv(Incoming::Many(argument)),
-        30 => State::Data(Outgoing::Protection(argument / 8192)),
+        30 => State::Data(Outgoing::Protection(argument / PROTECTION_GROUP)),
         42 => State::Rcv(Incoming::LockRequest),
         _ => state,
     }
@@ -260,11 +268,11 @@ pub fn change_of(index: u8, argument: u32) -> Change
 {
     match index {
         28 => Change::Protect {
-            group: argument / 8192,
+            group: argument / PROTECTION_GROUP,
             on: true,
         },
         29 => Change::Protect {
-            group: argument / 8192,
+            group: argument / PROTECTION_GROUP,
             on: false,
         },
         38 => Change::Erase,

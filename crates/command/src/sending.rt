@@ -3,7 +3,7 @@
 // Offers: `write_sent`.
 use crate::Sent;
 use base::Written;
-use record::Registers;
+use card_record::Registers;
 use wire::R1;
 use wire::R2;
 use wire::R3;

@@ -1,7 +1,8 @@
 // Corpus: the scripts of data/, under a heading each: those of bus/ are played as busline plays them,
 // the others, of card/, as cardline does. Some are written by hand, the others are random; stdout is
 // what the model wrote for all of them, and `tests/corpus` makes it again.
-use lines::parts::part;
+mod bus_script;
+mod card_script;
 
 fn main() {
     let n = os::arg_count();
@@ -12,19 +13,18 @@ fn main() {
     }
 }
 
-// The script that an argument names. `tape` reads 65,536 characters, so no script is longer.
+// The script that an argument names. `program_io` reads 65,536 characters, so no script is longer.
 fn script(i: usize) {
     let mut bytes = [0u8; 32768];
     play(i, &mut bytes);
 }
 
 fn play(i: usize, bytes: &mut [u8]) {
-    let n = tape::named(i, bytes);
-    let script = part(bytes, 0, n);
+    let n = program_io::named(i, bytes);
     if for_bus(i) {
-        busplayer::play(script);
+        bus_script::play(bytes, n);
     } else {
-        player::play(script);
+        card_script::play(bytes, n);
     }
 }
 

@@ -5,4 +5,5 @@ pub mod Linear
 pub mod Remainder
 pub mod Rule
 pub mod Steps
+pub mod WrongAnswers
 pub mod Xor

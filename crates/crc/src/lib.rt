@@ -1,7 +1,7 @@
 // CRC7 and CRC16 (document 01, "Frames and blocks"; source 000, 7.1), each from a table of the
 // remainders of the 256 bytes. Callers see the remainder of the division and no table.
 //
-// Offers: `crc7`, `crc16`, `copy_crc16`.
+// Offers: `crc7`, `crc16`.
 mod remainders16;
 mod remainders7;
 
@@ -11,7 +11,6 @@ ghost use mathlib.Core.Path.{_≡_};
 ghost use mathlib.Core.List.{[], _∷_};
 ghost use Prim.Native.Nat.{_*_, _/_, _%_, _<_};
 ghost use lib.Bits.{bitXor};
-ghost use Rattle.base.specs.Output.{fits, laid};
 ghost use Rattle.crc.specs.Crc.{crc7, crc16};
 ghost use Rattle.crc.specs.Table.{Remainders};
 
@@ -69,27 +68,6 @@ pub fn crc16(bytes: &[u8]) -> u16
     let mut i = 0;
     while i < bytes.len() {
         sum = step16(&table, sum, bytes[i]);
-        i += 1;
-    }
-    sum
-}
-
-// The CRC16 of any bytes, which are copied to the front of `out` in the same pass. An output that
-// is too short for them all is left as it was.
-pub fn copy_crc16(bytes: &[u8], out: &mut [u8]) -> u16
-    ensures answer { λ r. ⌜ r ≡ crc16 (now (bytes .entry)) ⌝ }
-    ensures output { λ _. ⌜ now (out .exit) ≡ laid (fits (now (bytes .entry)) (now (out .entry))) (now (bytes .entry)) (now (out .entry)) ⌝ }
-{
-    if out.len() < bytes.len() {
-        return crc16(bytes);
-    }
-    let table = table16();
-    let mut sum: u16 = 0;
-    let mut i = 0;
-    while i < bytes.len() {
-        let b = bytes[i];
-        out[i] = b;
-        sum = step16(&table, sum, b);
         i += 1;
     }
     sum

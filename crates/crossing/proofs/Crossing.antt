@@ -3,23 +3,24 @@
 --   own-cid, own-csd, own-password   the bytes of the record that numbers and bytes stand for are those bytes
 -- Assumes nothing.
 use mathlib.Core.Path.{_≡_, refl}
-use mathlib.Core.Bool.{Bool, true, false}
+use mathlib.Core.Bool.{Bool, true, false, not}
 use mathlib.Core.List.{List}
 use Prim.Native.Nat.{ℕ}
 use native.Mathlib.Nat.{mod-eq-of-lt}
 use lib.Dec.{eqb}
-use Rattle.record.specs.declared.Card.{Card}
+use Rattle.card_record.specs.declared.Card.{Card}
 use Rattle.states.specs.declared.Incoming.the-variants.{One as OneIn, Many as ManyIn, LockRequest}
 use Rattle.states.specs.declared.Outgoing.the-variants.{One, Many, Protection}
 use Rattle.states.specs.declared.State.{State}
 use Rattle.states.specs.declared.State.the-variants.{Idle, Ready, Ident, Stby, Tran, Data, Rcv, Prg, Dis, Ina}
-use Rattle.tags.specs.Tagging.{tagsOf}
+use Rattle.status.specs.Status.{flag}
+use Rattle.tags.specs.Tagging.{tagsOf, firstOf}
 use Rattle.tags.specs.declared.Kind.the-variants.{Sectors, Groups}
 use Rattle.tags.specs.declared.Range.{Range}
 use Rattle.tags.specs.declared.Range.the-variants.{Nothing, Start, Full}
-use Rattle.crossing.specs.Record.{stateOf, tagsBy, cardOf, stateNumber, stateAt, tagsNumber, firstOf, lastOf, flag, numbersOf, Within}
+use Rattle.crossing.specs.Record.{stateOf, tagsBy, cardOf, stateNumber, placeCarried, tagsNumber, lastOf, numbersOf, Within}
 
-state-crosses : (state : State) → stateOf (stateNumber state) (stateAt state) ≡ state
+state-crosses : (state : State) → stateOf (stateNumber state) (placeCarried state) ≡ state
 unfolding stateOf
 state-crosses Idle = refl
 state-crosses Ready = refl
@@ -44,7 +45,7 @@ tags-cross (Start Groups first) = refl
 tags-cross (Full Sectors first last) = refl
 tags-cross (Full Groups first last) = refl
 
-flag-crosses : (is : Bool) → eqb (flag is) 1 ≡ is
+flag-crosses : (is : Bool) → not (eqb (flag is) 0) ≡ is
 flag-crosses true = refl
 flag-crosses false = refl
 

@@ -1,21 +1,21 @@
 -- Wrong answers that the promises rule out, each refuted at a sample that antt computes: a call's answer is the definition, so a call
 -- that gave the wrong answer would make the two equal. (That nothing is lost is the law `crossing`.)
 --   state-14-idle      a state over 13 read as Idle
---   locked-by-2        locked read from a number that is neither 0 nor 1
+--   unlocked-by-2      a card opened by a flag that is neither 0 nor 1
 --   tags-by-5          tags read from a number over 4
 --   address-dropped    an address wider than 16 bits read as none, where its low bits count
 --   inactive-as-idle   Inactive told with the number of Idle
 --   unlocked-as-1      an unlocked record told as locked
 -- Assumes nothing.
-use mathlib.Core.Path.{_≡_}
-use mathlib.Core.Bool.{true}
+use mathlib.Core.Path.{_≡_, sym}
+use mathlib.Core.Bool.{false}
 use mathlib.Core.List.{[], _∷_}
 use native.Mathlib.Omega.{arith}
 use lib.ListN.{getD, replicate}
 use Rattle.base.proofs.Cases.{clash, never}
 use Rattle.lock.specs.Passwords.{holding}
-use Rattle.record.specs.Making.{refusedMake}
-use Rattle.record.specs.declared.Card.{Card}
+use Rattle.card_record.specs.Making.{refusedMake}
+use Rattle.card_record.specs.declared.Card.{Card}
 use Rattle.states.specs.declared.State.the-variants.{Idle}
 use Rattle.tags.specs.declared.Kind.the-variants.{Groups}
 use Rattle.tags.specs.declared.Range.the-variants.{Full}
@@ -30,9 +30,9 @@ state-14-idle : odd .link .state ≡ Idle → ⊥
 unfolding cardOf stateOf
 state-14-idle e = clash cc
 
-locked-by-2 : odd .lock .locked ≡ true → ⊥
+unlocked-by-2 : odd .lock .locked ≡ false → ⊥
 unfolding cardOf
-locked-by-2 e = never e
+unlocked-by-2 e = never (sym e)
 
 tags-by-5 : odd .link .tags .range ≡ Full Groups 3 4 → ⊥
 unfolding cardOf tagsBy

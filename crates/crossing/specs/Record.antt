@@ -1,20 +1,21 @@
 -- A card's record as C holds it: twelve numbers, and the 16 bytes each of the CID, the CSD and the password. The record that any numbers and
 -- bytes stand for, and the numbers of a record. That nothing is lost between the two is the theorem of proofs/Crossing.antt.
 -- Assumes nothing.
-use mathlib.Core.Bool.{Bool}
+use mathlib.Core.Bool.{not}
 use mathlib.Core.List.{List, [], _∷_}
 use Prim.Native.Nat.{ℕ, _%_, _<_}
 use lib.Dec.{eqb}
 use lib.ListN.{getD}
 use Rattle.base.specs.Choice.{pick}
-use Rattle.record.specs.declared.Card.{Card}
+use Rattle.card_record.specs.declared.Card.{Card}
 use Rattle.states.specs.declared.Incoming.{Incoming}
 use Rattle.states.specs.declared.Incoming.the-variants.{One as OneIn, Many as ManyIn, LockRequest}
 use Rattle.states.specs.declared.Outgoing.{Outgoing}
 use Rattle.states.specs.declared.Outgoing.the-variants.{One, Many, Protection}
 use Rattle.states.specs.declared.State.{State}
 use Rattle.states.specs.declared.State.the-variants.{Idle, Ready, Ident, Stby, Tran, Data, Rcv, Prg, Dis, Ina}
-use Rattle.tags.specs.Tagging.{tagsOf}
+use Rattle.status.specs.Status.{flag}
+use Rattle.tags.specs.Tagging.{tagsOf, firstOf}
 use Rattle.tags.specs.declared.Kind.{Kind}
 use Rattle.tags.specs.declared.Kind.the-variants.{Sectors, Groups}
 use Rattle.tags.specs.declared.Range.{Range}
@@ -45,12 +46,13 @@ tagsBy number first last =
     (pick (eqb number 2) (Start Groups first)
     (pick (eqb number 3) (Full Sectors first last) (pick (eqb number 4) (Full Groups first last) Nothing))))
 
--- the record of twelve numbers, a CID, a CSD and a password: of a number that is wider than its field the low bits count
+-- the record of twelve numbers, a CID, a CSD and a password: of a number that is wider than its field the low bits count, and every number but 0
+-- is locked
 unfoldable pub cardOf : List ℕ → List ℕ → List ℕ → List ℕ → Card
 cardOf numbers cid csd password =
     record {
       registers = record { cid = cid; csd = csd; ocr = getD numbers 11 0; groups = getD numbers 10 0 % 65536 };
-      lock = record { password = password; length = getD numbers 9 0 % 256; locked = eqb (getD numbers 8 0) 1 };
+      lock = record { password = password; length = getD numbers 9 0 % 256; locked = not (eqb (getD numbers 8 0) 0) };
       link =
           record {
             state = stateOf (getD numbers 0 0) (getD numbers 1 0);
@@ -95,17 +97,17 @@ incomingAt (OneIn at) = at
 incomingAt (ManyIn at) = at
 incomingAt LockRequest = 0
 
-abbrev pub stateAt : State → ℕ
-stateAt Idle = 0
-stateAt Ready = 0
-stateAt Ident = 0
-stateAt Stby = 0
-stateAt Tran = 0
-stateAt (Data outgoing) = outgoingAt outgoing
-stateAt (Rcv incoming) = incomingAt incoming
-stateAt Prg = 0
-stateAt Dis = 0
-stateAt Ina = 0
+abbrev pub placeCarried : State → ℕ
+placeCarried Idle = 0
+placeCarried Ready = 0
+placeCarried Ident = 0
+placeCarried Stby = 0
+placeCarried Tran = 0
+placeCarried (Data outgoing) = outgoingAt outgoing
+placeCarried (Rcv incoming) = incomingAt incoming
+placeCarried Prg = 0
+placeCarried Dis = 0
+placeCarried Ina = 0
 
 abbrev pub startNumber : Kind → ℕ
 startNumber Sectors = 1
@@ -120,23 +122,15 @@ tagsNumber Nothing = 0
 tagsNumber (Start kind first) = startNumber kind
 tagsNumber (Full kind first last) = fullNumber kind
 
-abbrev pub firstOf : Range → ℕ
-firstOf Nothing = 0
-firstOf (Start kind first) = first
-firstOf (Full kind first last) = first
-
 abbrev pub lastOf : Range → ℕ
 lastOf Nothing = 0
 lastOf (Start kind first) = 0
 lastOf (Full kind first last) = last
 
-abbrev pub flag : Bool → ℕ
-flag is = pick is 1 0
-
 -- the twelve numbers of a record, in the order in which mmc.h names them
 unfoldable pub numbersOf : Card → List ℕ
 numbersOf card =
-    stateNumber (card .link .state) ∷ stateAt (card .link .state) ∷ card .link .address ∷ card .link .length ∷ card .link .errors .bits ∷
+    stateNumber (card .link .state) ∷ placeCarried (card .link .state) ∷ card .link .address ∷ card .link .length ∷ card .link .errors .bits ∷
     tagsNumber (card .link .tags .range) ∷ firstOf (card .link .tags .range) ∷ lastOf (card .link .tags .range) ∷ flag (card .lock .locked) ∷
     card .lock .length ∷ card .registers .groups ∷ card .registers .ocr ∷ []
 

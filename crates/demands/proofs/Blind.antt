@@ -7,7 +7,7 @@ use Prim.Native.Nat.{ℕ}
 use lib.ListN.{length}
 use Rattle.card.specs.Step.{stepOf, mapOf}
 use Rattle.card.specs.declared.Call.{Call}
-use Rattle.record.specs.declared.Card.{Card}
+use Rattle.card_record.specs.declared.Card.{Card}
 
 pub blind : (card : Card) (call : Call) (input map : List ℕ) (room : ℕ) (memory other : List ℕ) → length memory ≡ length other
     → (stepOf card call input (length memory) map room ≡ stepOf card call input (length other) map room)

@@ -12,9 +12,8 @@ use Prim.Native.Nat.{ℕ}
 use lib.Dec.{eqb}
 use Rattle.base.proofs.Cases.{cases, clash}
 use Rattle.base.specs.Choice.{pick, unless}
-use Rattle.card.specs.Frame.{metAlone}
 use Rattle.command.specs.Answers.{answered, silent}
-use Rattle.command.specs.Command.{askedOf, takenOf, concluded, resetTold, commandOf}
+use Rattle.command.specs.Command.{metBy, receivedOf, takenOf, concluded, resetTold, commandOf}
 use Rattle.command.specs.Obey.{passesLock, taggingOf, judgedOf}
 use Rattle.command.specs.declared.Change.the-variants.{Nothing}
 use Rattle.command.specs.declared.Commanded.{Commanded}
@@ -23,12 +22,12 @@ use Rattle.command.specs.declared.Response.{Response}
 use Rattle.command.specs.declared.Response.the-variants.{R1}
 use Rattle.moves.specs.Indices.{among}
 use Rattle.moves.specs.Rows.{rowOf}
-use Rattle.moves.specs.declared.Asked.{Asked}
+use Rattle.moves.specs.declared.Received.{Received}
 use Rattle.moves.specs.declared.Move.the-variants.{To}
-use Rattle.record.specs.Power.{freshLink}
-use Rattle.record.specs.Record.{sizeOf, withTags}
-use Rattle.record.specs.declared.Card.{Card}
-use Rattle.record.specs.declared.Link.{Link}
+use Rattle.card_record.specs.Power.{freshLink}
+use Rattle.card_record.specs.Record.{sizeOf, withTags}
+use Rattle.card_record.specs.declared.Card.{Card}
+use Rattle.card_record.specs.declared.Link.{Link}
 use Rattle.states.specs.States.{columnOf}
 use Rattle.states.specs.declared.Column.{Column}
 use Rattle.status.proofs.ErrorTheorems.{set-shows, named-shown}
@@ -39,7 +38,7 @@ use Rattle.status.specs.Status.{withBit, wordOf}
 use Rattle.status.specs.declared.ErrorBit.{ErrorBit}
 use Rattle.status.specs.declared.Errors.{Errors}
 use Rattle.status.specs.declared.Fault.the-variants.{None, Bit}
-use Rattle.tags.specs.Tagging.{noTags, failed}
+use Rattle.tags.specs.Tagging.{noTags, tagFailed}
 use Rattle.tags.specs.declared.Tagging.{Tagging}
 use Rattle.tags.specs.declared.Tags.{Tags}
 use Rattle.demands.specs.Faulted.{fault, Faulted}
@@ -57,8 +56,8 @@ bit-shown e bit locked on =
 
 module _ (link : Link) (met : Met) (index argument : ℕ) (column : Column) (bit : ErrorBit) (taken : Taken link met index argument column)
     (faults : fault link met index argument ≡ Bit bit) where
-  abbrev asked : Asked
-  asked = askedOf link met index argument
+  abbrev asked : Received
+  asked = receivedOf link met index argument
 
   abbrev tagging : Tagging
   tagging = judgedOf link (met .groups) (met .locked) index argument
@@ -120,7 +119,7 @@ lock-fault : (link : Link) (met : Met) (index argument : ℕ) → passesLock (me
     → fault link met index argument ≡ Bit (errorBit 24)
 unfolding judgedOf
 lock-fault link met index argument stopped =
-    ap (λ (t : Bool). unless t (failed (errorBit 24)) (taggingOf link (sizeOf (met .groups)) index argument) .error) stopped
+    ap (λ (t : Bool). unless t (tagFailed (errorBit 24)) (taggingOf link (sizeOf (met .groups)) index argument) .error) stopped
 
 pub only-passes-lock : (link : Link) (met : Met) (index argument : ℕ) (column : Column)
     → Taken link met index argument column → passesLock (met .locked) index ≡ false
@@ -128,13 +127,13 @@ pub only-passes-lock : (link : Link) (met : Met) (index argument : ℕ) (column 
 only-passes-lock link met index argument column taken stopped =
     faulted link met index argument column (errorBit 24) taken (lock-fault link met index argument stopped)
 
-module _ (card : Card) (frame memory map out : List ℕ) (index argument : ℕ) (reads : Reads card frame memory map index argument)
-    (column : Column) (taken : Taken (card .link) (metAlone card) index argument column) where
-  pub faulted-frame : (bit : ErrorBit) → fault (card .link) (metAlone card) index argument ≡ Bit bit
-      → Unlent card frame memory map out (commandOf (card .link) (metAlone card) index argument)
+module _ (card : Card) (wins : Bool) (frame memory map out : List ℕ) (index argument : ℕ) (reads : Reads card frame memory map index argument)
+    (column : Column) (taken : Taken (card .link) (metBy card wins) index argument column) where
+  pub faulted-frame : (bit : ErrorBit) → fault (card .link) (metBy card wins) index argument ≡ Bit bit
+      → Unlent card wins frame memory map out (commandOf (card .link) (metBy card wins) index argument)
   faulted-frame bit faults =
-      unlent card frame memory map out index argument reads (faulted (card .link) (metAlone card) index argument column bit taken faults .change)
+      unlent card wins frame memory map out index argument reads (faulted (card .link) (metBy card wins) index argument column bit taken faults .change)
 
   pub locked-frame : passesLock (card .lock .locked) index ≡ false
-      → Unlent card frame memory map out (commandOf (card .link) (metAlone card) index argument)
-  locked-frame stopped = faulted-frame (errorBit 24) (lock-fault (card .link) (metAlone card) index argument stopped)
+      → Unlent card wins frame memory map out (commandOf (card .link) (metBy card wins) index argument)
+  locked-frame stopped = faulted-frame (errorBit 24) (lock-fault (card .link) (metBy card wins) index argument stopped)

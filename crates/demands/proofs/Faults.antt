@@ -14,7 +14,7 @@ use Rattle.base.proofs.Cases.{picked, guarded, clash, opposite}
 use Rattle.base.specs.Choice.{pick}
 use Rattle.command.specs.Answers.{responseOf}
 use Rattle.command.specs.Arguments.{argumentFault}
-use Rattle.command.specs.Obey.{passesLock, erasing, taggingOf, judgedOf}
+use Rattle.command.specs.Obey.{passesLock, eraseTagging, taggingOf, judgedOf}
 use Rattle.command.specs.declared.Change.the-variants.{Nothing}
 use Rattle.command.specs.declared.Response.{Response}
 use Rattle.command.specs.declared.Response.the-variants as response
@@ -24,20 +24,19 @@ use Rattle.moves.specs.Classes.{classOf}
 use Rattle.moves.specs.Indices.{among}
 use Rattle.moves.specs.Moves.{inRow, moveOf}
 use Rattle.moves.specs.Rows.{own, transferRow, rowOf}
-use Rattle.moves.specs.declared.Asked.{Asked}
+use Rattle.moves.specs.declared.Received.{Received}
 use Rattle.moves.specs.declared.Move.{Move}
 use Rattle.moves.specs.declared.Move.the-variants.{Ignored, Silent, Illegal, To}
 use Rattle.moves.specs.declared.Row.{Row}
 use Rattle.moves.specs.declared.Row.the-variants.{SetRelativeAddr, StopTransmission, SendStatus, SetOrTag, Read, Write, Program, OtherAddress, Unsupported}
-use Rattle.record.specs.Record.{sizeOf}
-use Rattle.record.specs.declared.Link.{Link}
+use Rattle.card_record.specs.Record.{sizeOf}
+use Rattle.card_record.specs.declared.Link.{Link}
 use Rattle.states.specs.declared.Column.{Column}
 use Rattle.status.specs.declared.Fault.the-variants.{None}
 use Rattle.tags.proofs.TagTheorems.{Drops, start-error-drops, end-error-drops}
-use Rattle.tags.specs.Tags.{eraseOf}
+use Rattle.tags.specs.Tagging.{isComplete}
 use Rattle.tags.specs.declared.Kind.the-variants.{Sectors, Groups}
-use Rattle.tags.specs.declared.ToErase.{ToErase}
-use Rattle.tags.specs.declared.ToErase.the-variants.{Sectors as FromTo, Error}
+use Rattle.tags.specs.declared.Tags.{Tags}
 
 -- the commands that have no error to show: class 0 but for CMD3, 12 and 13
 abbrev pub faultless : List ℕ
@@ -82,9 +81,8 @@ module _ (link : Link) (groups : ℕ) (locked : Bool) (argument : ℕ) where
       )
 
 -- CMD38's error drops tags, and so does its erase
-erase-drops : (e : ToErase) → Drops (erasing e)
-erase-drops (FromTo first last) bit h = refl
-erase-drops (Error b) bit h = refl
+erase-drops : (tags : Tags) → Drops (eraseTagging tags)
+erase-drops tags = guarded Drops (isComplete tags) (λ t bit h. refl) (λ t bit h. refl)
 
 -- what checks 5 and 6 stop drops the tags
 pub judged-drops : (link : Link) (groups : ℕ) (locked : Bool) (index argument : ℕ) → Drops (judgedOf link groups locked index argument)
@@ -96,7 +94,7 @@ judged-drops link groups locked index argument =
     (λ v. picked Drops (among index (33 ∷ [])) (λ w. end-error-drops (link .tags) Sectors argument (sizeOf groups))
     (λ w. picked Drops (among index (35 ∷ [])) (λ x. start-error-drops Groups argument (sizeOf groups))
     (λ x. picked Drops (among index (36 ∷ [])) (λ y. end-error-drops (link .tags) Groups argument (sizeOf groups))
-    (λ y. picked Drops (among index (38 ∷ [])) (λ z. erase-drops (eraseOf (link .tags))) (λ z bit e. refl)))))))
+    (λ y. picked Drops (among index (38 ∷ [])) (λ z. erase-drops (link .tags)) (λ z bit e. refl)))))))
 
 -- the rows of the other commands
 abbrev pub judging : List Row
@@ -105,7 +103,7 @@ judging = SetRelativeAddr ∷ StopTransmission ∷ SendStatus ∷ OtherAddress �
 abbrev pub Judging : Row → Type 0
 Judging row = inRow row judging ≡ true
 
-module _ (asked : Asked) (others : among (asked .index) faultless ≡ false) where
+module _ (asked : Received) (others : among (asked .index) faultless ≡ false) where
   Listed : ℕ → Type 0
   Listed k = among k faultless ≡ true
 

@@ -2,23 +2,24 @@
 --   inactive-ends    under every other call it is equal in every field afterwards
 -- Assumes nothing.
 use mathlib.Core.Path.{_≡_, refl, sym, ap, _∙_, subst}
+use mathlib.Core.Bool.{Bool}
 use mathlib.Core.List.{List}
 use Prim.Native.Nat.{ℕ}
 use Rattle.base.proofs.Cases.{guarded}
 use Rattle.card.specs.BlockIn.{stateJudged, blockJudged}
 use Rattle.card.specs.BlockOut.{stateSends, outJudged}
-use Rattle.card.specs.Frame.{metAlone, framed, frameJudged, frameOf, spares, sparedTold}
+use Rattle.card.specs.Frame.{framed, frameJudged, frameStepped, spares, sparedTold}
 use Rattle.card.specs.Step.{stepOf}
 use Rattle.card.specs.declared.BlockJudged.{BlockJudged}
 use Rattle.card.specs.declared.Call.{Call}
 use Rattle.card.specs.declared.Call.the-variants.{Frame, BlockIn, BlockOut, WorkDone, PowerOn}
 use Rattle.card.specs.declared.FrameJudged.{FrameJudged}
 use Rattle.card.specs.declared.OutJudged.{OutJudged}
-use Rattle.command.specs.Command.{damagedLink}
+use Rattle.command.specs.Command.{metBy, damagedLink}
 use Rattle.command.specs.declared.Change.{Change}
 use Rattle.command.specs.declared.Change.the-variants.{Nothing}
-use Rattle.record.specs.Power.{worked}
-use Rattle.record.specs.declared.Card.{Card}
+use Rattle.card_record.specs.Power.{worked}
+use Rattle.card_record.specs.declared.Card.{Card}
 use Rattle.states.specs.declared.State.{State}
 use Rattle.states.specs.declared.State.the-variants.{Ina}
 use Rattle.store.specs.Map.{lentRight}
@@ -32,23 +33,23 @@ module _ (card : Card) (ina : card .link .state ≡ Ina) where
   abbrev Stays : FrameJudged → Type 0
   Stays j = (j .stepped .card ≡ card) × (j .change ≡ Nothing)
 
-  framed-stays : (framing : Framing) → Stays (framed card framing)
+  framed-stays : (wins : Bool) (framing : Framing) → Stays (framed card wins framing)
   unfolding damagedLink
-  framed-stays (Unframed refusal) = (refl, refl)
-  framed-stays (Framed index argument right) =
-      guarded Stays right (λ t. (rw ina, refl)) (λ t. rw (check-1 (card .link) (metAlone card) index argument ina) (refl, refl))
+  framed-stays wins (Unframed refusal) = (refl, refl)
+  framed-stays wins (Framed index argument right) =
+      guarded Stays right (λ t. (rw ina, refl)) (λ t. rw (check-1 (card .link) (metBy card wins) index argument ina) (refl, refl))
 
-  frame-stays : (input : List ℕ) (memory : ℕ) (map : List ℕ) → Stays (frameJudged card input memory map)
+  frame-stays : (wins : Bool) (input : List ℕ) (memory : ℕ) (map : List ℕ) → Stays (frameJudged card wins input memory map)
   unfolding frameJudged
-  frame-stays input memory map =
-      guarded Stays (lentRight memory map (card .registers .groups)) (λ t. (refl, refl)) (λ t. framed-stays (framingOf input))
+  frame-stays wins input memory map =
+      guarded Stays (lentRight memory map (card .registers .groups)) (λ t. (refl, refl)) (λ t. framed-stays wins (framingOf input))
 
   pub inactive-ends : (call : Call) → (call ≡ PowerOn → ⊥) → (input : List ℕ) (memory : ℕ) (map : List ℕ) (room : ℕ)
       → stepOf card call input memory map room .card ≡ card
-  unfolding frameOf blockJudged outJudged worked
-  inactive-ends Frame other input memory map room =
-      let (same, kept) = frame-stays input memory map in
-      ap (λ (c : Change). sparedTold (frameJudged card input memory map .stepped) (spares card memory map c) .card) kept ∙ same
+  unfolding frameStepped blockJudged outJudged worked
+  inactive-ends (Frame wins) other input memory map room =
+      let (same, kept) = frame-stays wins input memory map in
+      ap (λ (c : Change). sparedTold (frameJudged card wins input memory map .stepped) (spares card memory map c) .card) kept ∙ same
   inactive-ends BlockIn other input memory map room =
       guarded (λ (j : BlockJudged). j .stepped .card ≡ card) (lentRight memory map (card .registers .groups)) (λ t. refl)
       (λ t. subst (λ (s : State). stateJudged card s input map .stepped .card ≡ card) (sym ina) refl)

@@ -5,4 +5,5 @@ pub mod Faults
 pub mod Frames
 pub mod Inactive
 pub mod Refused
+pub mod RefusedOnBus
 pub mod Silenced

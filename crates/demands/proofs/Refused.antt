@@ -5,18 +5,18 @@
 --   refused-keeps       so a refusal leaves them
 -- Assumes nothing.
 use mathlib.Core.Path.{_≡_, refl, sym, ap, _∙_, subst}
-use mathlib.Core.Bool.{true, false}
+use mathlib.Core.Bool.{Bool, true, false}
 use mathlib.Core.List.{List, [], _∷_}
 use Prim.Native.Nat.{ℕ}
 use lib.Dec.{eqb}
 use lib.ListN.{length}
 use Rattle.base.proofs.Cases.{cases, picked, clash}
-use Rattle.base.specs.Refusals.{numberOf, by}
+use Rattle.base.specs.Refusals.{numberOf, refusalOf, by}
 use Rattle.base.specs.declared.Refusal.{Refusal}
 use Rattle.card.proofs.Outcomes.{Refuses as Awaited, wrong-length, wrong-crc, past-end, protected, failed, InOutcome, unreads, refuses, stores, grants, forces, OutOutcome, unsends, past, across, sends, FrameOutcome, unheard, damaged, commands, block-outcome, out-outcome, frame-outcome, told}
 use Rattle.card.specs.BlockIn.{afterRefused, withFault, blockRefused, blockGood, keptOf, storedBy, clearedBy}
 use Rattle.card.specs.BlockOut.{outRefused, outGood, sentOut}
-use Rattle.card.specs.Frame.{metAlone, commanded, frameOf, erasedBy, protectedBy, spares, sparedTold}
+use Rattle.card.specs.Frame.{commanded, frameStepped, erasedBy, protectedBy, spares, sparedTold}
 use Rattle.card.specs.Replies.{refused}
 use Rattle.card.specs.Step.{stepOf}
 use Rattle.card.specs.declared.BlockJudged.{BlockJudged}
@@ -28,16 +28,15 @@ use Rattle.card.specs.declared.Outcome.the-variants.{Done, Refused}
 use Rattle.card.specs.declared.Sending.the-variants as sending
 use Rattle.card.specs.declared.Stepped.{Stepped}
 use Rattle.card.specs.declared.Storing.the-variants as storing
-use Rattle.command.specs.Command.{damagedLink, commandOf}
+use Rattle.command.specs.Command.{metBy, damagedLink, commandOf}
 use Rattle.command.specs.declared.Change.the-variants as change
 use Rattle.command.specs.declared.Commanded.{Commanded}
 use Rattle.command.specs.declared.Sent.the-variants.{Nothing}
 use Rattle.moves.proofs.Among.{each}
 use Rattle.moves.specs.Indices.{among}
-use Rattle.record.specs.Record.{withState, withErrors, withLink}
-use Rattle.record.specs.declared.Card.{Card}
-use Rattle.states.specs.States.{columnOf}
-use Rattle.states.specs.States.{numberOf as placeOf}
+use Rattle.card_record.specs.Record.{withState, withErrors, withLink}
+use Rattle.card_record.specs.declared.Card.{Card}
+use Rattle.states.specs.States.{columnOf, columnNumber}
 use Rattle.states.specs.declared.Incoming.{Incoming}
 use Rattle.states.specs.declared.Incoming.the-variants.{One, Many, LockRequest}
 use Rattle.states.specs.declared.State.{State}
@@ -54,12 +53,12 @@ lands (Many at) = refl
 lands LockRequest = refl
 
 -- "3 sets bit 23 of the card .. unless Inactive"
-damage-named : (card : Card) → withLink card (damagedLink (card .link)) ≡ named Frame 3 card
+damage-named : (card : Card) (wins : Bool) → withLink card (damagedLink (card .link)) ≡ named (Frame wins) 3 card
 unfolding damagedLink
-damage-named card =
-    cases (eqb (placeOf (columnOf (card .link .state))) 9)
-    (λ (t : eqb (placeOf (columnOf (card .link .state))) 9 ≡ true). simp t)
-    (λ (t : eqb (placeOf (columnOf (card .link .state))) 9 ≡ false). simp t)
+damage-named card wins =
+    cases (eqb (columnNumber (columnOf (card .link .state))) 9)
+    (λ (t : eqb (columnNumber (columnOf (card .link .state))) 9 ≡ true). simp t)
+    (λ (t : eqb (columnNumber (columnOf (card .link .state))) 9 ≡ false). simp t)
 
 module _ (card : Card) (r : Refusal) where
   -- of a call that is refused: the number, the record, and nothing sent
@@ -68,22 +67,22 @@ module _ (card : Card) (r : Refusal) where
     pub next : stepped .card ≡ named call (numberOf r) card
     pub unsent : stepped .reply .sent ≡ Nothing
 
-  left : (call : Call) (n : ℕ) → numberOf (by n) ≡ n → among n (numbers call) ≡ true → Refused (by n) ≡ Refused r
-      → Left call (refused (named call n card) (by n))
+  left : (call : Call) (n : ℕ) → numberOf (refusalOf n) ≡ n → among n (numbers call) ≡ true → Refused (refusalOf n) ≡ Refused r
+      → Left call (refused (named call n card) (refusalOf n))
   left call n right listed e =
-      let same : by n ≡ r = cc in
+      let same : refusalOf n ≡ r = cc in
       let m : numberOf r ≡ n = sym (ap numberOf same) ∙ right in
       record { number = rw m listed; next = rw m; unsent = refl }
 
   -- a call that is refused with a number and leaves the record
   abbrev Same : Call → ℕ → Type 0
-  Same call n = Refused (by n) ≡ Refused r → Left call (refused card (by n))
+  Same call n = Refused (refusalOf n) ≡ Refused r → Left call (refused card (refusalOf n))
 
   -- ---- a block in
   module _ (incoming : Incoming) (on : card .link .state ≡ Rcv incoming) where
     -- the record after a refusal with a number and a fault, in a state
     abbrev leaves : ℕ → Fault → State → Stepped
-    leaves n fault state = refused (withLink card (withErrors (withState (card .link) state) (withFault (card .link .errors) fault))) (by n)
+    leaves n fault state = refused (withLink card (withErrors (withState (card .link) state) (withFault (card .link .errors) fault))) (refusalOf n)
 
     up : (n : ℕ) (fault : Fault) → Left BlockIn (leaves n fault (givenUp (card .link .state))) → Left BlockIn (leaves n fault (afterRefused incoming))
     up n fault = subst (λ (s : State). Left BlockIn (leaves n fault s)) (ap givenUp on ∙ lands incoming)
@@ -117,14 +116,15 @@ module _ (card : Card) (r : Refusal) where
   out-left (sends outgoing next n sending on within) e = clash cc
 
   -- ---- a frame
-  frame-left : (frame : List ℕ) (memory : ℕ) (map : List ℕ) {j : FrameJudged} → FrameOutcome card frame memory map j
+  frame-left : (wins : Bool) (frame : List ℕ) (memory : ℕ) (map : List ℕ) {j : FrameJudged} → FrameOutcome card wins frame memory map j
       → sparedTold (j .stepped) (spares card memory map (j .change)) .reply .outcome ≡ Refused r
-      → Left Frame (sparedTold (j .stepped) (spares card memory map (j .change))) × (j .change ≡ change.Nothing)
-  frame-left frame memory map (unheard n listed) e =
-      (each (Same Frame) (12 ∷ 1 ∷ 2 ∷ []) (left Frame 12 refl refl, (left Frame 1 refl refl, (left Frame 2 refl refl, tt))) n listed e, refl)
-  frame-left frame memory map damaged e = (subst (λ (c : Card). Left Frame (refused c (by 3))) (sym (damage-named card)) (left Frame 3 refl refl e), refl)
-  frame-left frame memory map (commands index argument is lent) e =
-      let given : Commanded = commandOf (card .link) (metAlone card) index argument in
+      → Left (Frame wins) (sparedTold (j .stepped) (spares card memory map (j .change))) × (j .change ≡ change.Nothing)
+  frame-left wins frame memory map (unheard n listed) e =
+      (each (Same (Frame wins)) (12 ∷ 1 ∷ 2 ∷ []) (left (Frame wins) 12 refl refl, (left (Frame wins) 1 refl refl, (left (Frame wins) 2 refl refl, tt))) n listed e, refl)
+  frame-left wins frame memory map damaged e =
+      (subst (λ (c : Card). Left (Frame wins) (refused c (by 3))) (sym (damage-named card wins)) (left (Frame wins) 3 refl refl e), refl)
+  frame-left wins frame memory map (commands index argument is lent) e =
+      let given : Commanded = commandOf (card .link) (metBy card wins) index argument in
       let done : sparedTold (commanded card given .stepped) (spares card memory map (given .change)) .reply .outcome ≡ Done =
       told (λ (s : Stepped). s .reply .outcome ≡ Done) (commanded card given .stepped) (spares card memory map (given .change)) refl refl
       in
@@ -132,9 +132,9 @@ module _ (card : Card) (r : Refusal) where
 
 pub refused-by-number : (card : Card) (call : Call) (input memory map out : List ℕ) (r : Refusal)
     → Refuses card call input memory map out r → ByNumber card call input memory map out r
-unfolding frameOf
-refused-by-number card Frame input memory map out r e =
-    let (l, same) = frame-left card r input (length memory) map (frame-outcome card input (length memory) map) e in
+unfolding frameStepped
+refused-by-number card (Frame wins) input memory map out r e =
+    let (l, same) = frame-left card r wins input (length memory) map (frame-outcome card wins input (length memory) map) e in
     record {
       number = l .number;
       next = l .next;
@@ -187,7 +187,7 @@ module _ (card : Card) where
       (λ w. record { registers = refl; lock = refl; address = refl; length = refl; tags = refl }))))
 
   pub named-keeps : (call : Call) (n : ℕ) → Kept (named call n card)
-  named-keeps Frame n =
+  named-keeps (Frame wins) n =
       picked Kept (eqb n 3) (λ t. picked Kept (inactive card) (λ u. same-keeps) (λ u. noted-keeps 23)) (λ t. same-keeps)
   named-keeps BlockIn n =
       picked Kept (among n (16 ∷ 17 ∷ 18 ∷ 19 ∷ 20 ∷ [])) (λ t. in-keeps n (givenUp (card .link .state))) (λ t. same-keeps)

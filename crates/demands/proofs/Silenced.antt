@@ -16,7 +16,7 @@ use lib.Bits.{bitAnd}
 use lib.Dec.{T, eqb, ltb}
 use Rattle.base.proofs.Cases.{picked}
 use Rattle.base.specs.Choice.{pick}
-use Rattle.command.specs.Command.{askedOf, movedBy, commandOf}
+use Rattle.command.specs.Command.{receivedOf, movedBy, commandOf}
 use Rattle.command.specs.declared.Met.{Met}
 use Rattle.moves.proofs.Among.{each}
 use Rattle.moves.proofs.Laws.{inactive, bit-22-states}
@@ -24,12 +24,12 @@ use Rattle.moves.proofs.Orders.{moveNumber, movesNumbered, everywhere}
 use Rattle.moves.proofs.Spans.{told}
 use Rattle.moves.specs.Moves.{inState, inRow, legal, unjudged, noLegalMove, moveOf}
 use Rattle.moves.specs.Rows.{window, rowOf}
-use Rattle.moves.specs.declared.Asked.{Asked}
+use Rattle.moves.specs.declared.Received.{Received}
 use Rattle.moves.specs.declared.Move.{Move}
 use Rattle.moves.specs.declared.Move.the-variants.{Ignored, Silent, Illegal, To}
 use Rattle.moves.specs.declared.Row.{Row}
 use Rattle.moves.specs.declared.Row.the-variants.{OpCondAsked, OpCondShared, OpCondApart, AllSendCidWon, AllSendCidLost, SetRelativeAddr, SetDsr, DeselectCard, OtherAddress}
-use Rattle.record.specs.declared.Link.{Link}
+use Rattle.card_record.specs.declared.Link.{Link}
 use Rattle.states.specs.States.{columnOf}
 use Rattle.states.specs.declared.Column.{Column}
 use Rattle.states.specs.declared.Column.the-variants.{Idle, Ready, Ident, Tran, Data, Rcv, Prg}
@@ -81,8 +81,8 @@ moveless-marked =
     everywhere (λ row column. pick (moveless row column) (eqb (moveNumber (moveOf row column)) (moveNumber (noLegalMove column))) true) tt
 
 module _ (link : Link) (met : Met) (index argument : ℕ) where
-  abbrev asked : Asked
-  asked = askedOf link met index argument
+  abbrev asked : Received
+  asked = receivedOf link met index argument
 
   abbrev column : Column
   column = columnOf (link .state)
@@ -120,7 +120,7 @@ module _ (link : Link) (met : Met) (index argument : ℕ) where
   StoppedHere row = stopped row column ≡ true
 
   other-row : (k : ℕ) → Type 0
-  other-row k = StoppedHere (rowOf (askedOf link met k argument))
+  other-row k = StoppedHere (rowOf (receivedOf link met k argument))
 
   pub check-3 : PassedOver link met index argument → Unchanged link met index argument
   unfolding rowOf other-row

@@ -1,3 +1,4 @@
 pub mod Faulted
 pub mod Refused
+pub mod RefusedOnBus
 pub mod Silenced

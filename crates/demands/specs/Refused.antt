@@ -17,20 +17,20 @@ use Rattle.card.specs.declared.Outcome.the-variants.{Refused}
 use Rattle.command.specs.declared.Sent.the-variants.{Nothing}
 use Rattle.moves.specs.Indices.{among}
 use Rattle.moves.specs.Moves.{inState}
-use Rattle.record.specs.Record.{withState, withErrors, withLink}
-use Rattle.record.specs.declared.Card.{Card}
+use Rattle.card_record.specs.Record.{withState, withErrors, withLink}
+use Rattle.card_record.specs.declared.Card.{Card}
 use Rattle.states.specs.States.{columnOf}
 use Rattle.states.specs.declared.Column.the-variants as column
 use Rattle.states.specs.declared.Incoming.the-variants.{One, Many, LockRequest}
 use Rattle.states.specs.declared.State.{State}
 use Rattle.states.specs.declared.State.the-variants.{Idle, Ready, Ident, Stby, Tran, Data, Rcv, Prg, Dis, Ina}
-use Rattle.status.specs.ErrorBits.{errorBit}
+use Rattle.status.specs.ErrorBits.{errorBitAt}
 use Rattle.status.specs.Status.{withBit}
 
 -- "Block in: 12, 15, 16, 17, 18, 19 or 20. Block out: 12, 15, 6, 18, 21. Frame: 1, 2, 3; at a card 12 comes first"; "Work done .. is never
 -- refused", and neither is power-on
 abbrev pub numbers : Call → List ℕ
-numbers Frame = 12 ∷ 1 ∷ 2 ∷ 3 ∷ []
+numbers (Frame wins) = 12 ∷ 1 ∷ 2 ∷ 3 ∷ []
 numbers BlockIn = 12 ∷ 15 ∷ 16 ∷ 17 ∷ 18 ∷ 19 ∷ 20 ∷ []
 numbers BlockOut = 12 ∷ 15 ∷ 6 ∷ 18 ∷ 21 ∷ []
 numbers WorkDone = []
@@ -38,7 +38,7 @@ numbers PowerOn = []
 
 -- the card with an error bit set, and nothing else changed
 abbrev pub noted : ℕ → Card → Card
-noted place card = withLink card (withErrors (card .link) (withBit (card .link .errors) (errorBit place)))
+noted place card = withLink card (withErrors (card .link) (withBit (card .link .errors) (errorBitAt place)))
 
 -- the card in a state, and nothing else changed
 abbrev pub moved : State → Card → Card
@@ -81,7 +81,7 @@ namedOut number card = pick (eqb number 18) (noted 31 card) (pick (eqb number 21
 
 -- the record that document 01 names after a call that is refused with a number
 abbrev pub named : Call → ℕ → Card → Card
-named Frame number card = namedFrame number card
+named (Frame wins) number card = namedFrame number card
 named BlockIn number card = namedIn number card
 named BlockOut number card = namedOut number card
 named WorkDone number card = card

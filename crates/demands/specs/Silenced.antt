@@ -12,7 +12,7 @@ use Rattle.card.specs.Step.{stepOf, memoryOf, mapOf, outputOf}
 use Rattle.card.specs.declared.Call.the-variants.{Frame}
 use Rattle.card.specs.declared.Outcome.the-variants.{Done}
 use Rattle.command.specs.Answers.{silent}
-use Rattle.command.specs.Command.{askedOf, commandOf}
+use Rattle.command.specs.Command.{receivedOf, commandOf}
 use Rattle.command.specs.declared.Commanded.{Commanded}
 use Rattle.command.specs.declared.Met.{Met}
 use Rattle.moves.specs.Indices.{among}
@@ -21,10 +21,10 @@ use Rattle.moves.specs.Rows.{rowOf}
 use Rattle.moves.specs.declared.Move.the-variants.{To}
 use Rattle.moves.specs.declared.Row.{Row}
 use Rattle.moves.specs.declared.Row.the-variants.{DeselectCard}
-use Rattle.record.specs.Record.{withErrors, withLink}
-use Rattle.record.specs.declared.Card.{Card}
-use Rattle.record.specs.declared.Link.{Link}
-use Rattle.states.specs.States.{columnOf, numberOf}
+use Rattle.card_record.specs.Record.{withErrors, withLink}
+use Rattle.card_record.specs.declared.Card.{Card}
+use Rattle.card_record.specs.declared.Link.{Link}
+use Rattle.states.specs.States.{columnOf, columnNumber}
 use Rattle.states.specs.declared.Column.{Column}
 use Rattle.states.specs.declared.Column.the-variants.{Idle, Ready, Ident, Tran, Data, Rcv, Prg}
 use Rattle.status.specs.ErrorBits.{errorBit}
@@ -36,7 +36,7 @@ use Rattle.wire.specs.declared.Frame.the-variants.{Command}
 -- the table's column "Move" has nothing for a state
 abbrev pub noneFrom : Column → List (Column × Column) → Bool
 noneFrom column [] = true
-noneFrom column (pair ∷ pairs) = pick (eqb (numberOf column) (numberOf (pair .0))) false (noneFrom column pairs)
+noneFrom column (pair ∷ pairs) = pick (eqb (columnNumber column) (columnNumber (pair .0))) false (noneFrom column pairs)
 
 -- the card is in one of these states, or in none of them
 abbrev pub In : Link → List Column → Type 0
@@ -52,7 +52,7 @@ ForAnother link argument = argument / 65536 ≡ link .address → ⊥
 module _ (link : Link) (met : Met) (index argument : ℕ) where
   -- the line of the table that the command falls in at this card
   abbrev pub row : Row
-  row = rowOf (askedOf link met index argument)
+  row = rowOf (receivedOf link met index argument)
 
   -- "A command is taken if it passes checks 1 to 4": the table has a move for it
   abbrev pub Taken : Column → Type 0
@@ -94,8 +94,8 @@ pub record Reads (card : Card) (frame memory map : List ℕ) (index argument : �
   pub command : frameOf frame ≡ Command index argument
 
 -- a frame whose command leaves this, and that changes no lent byte
-pub record Unlent (card : Card) (frame memory map out : List ℕ) (given : Commanded) : Type 0 where
-  pub step : stepOf card Frame frame (length memory) map (length out) ≡ replied (withLink card (given .link)) Done (given .sent)
-  pub memory-kept : memoryOf card Frame frame memory map ≡ memory
-  pub map-kept : mapOf card Frame frame (length memory) map ≡ map
-  pub output-kept : outputOf card Frame memory map out ≡ out
+pub record Unlent (card : Card) (wins : Bool) (frame memory map out : List ℕ) (given : Commanded) : Type 0 where
+  pub step : stepOf card (Frame wins) frame (length memory) map (length out) ≡ replied (withLink card (given .link)) Done (given .sent)
+  pub memory-kept : memoryOf card (Frame wins) frame memory map ≡ memory
+  pub map-kept : mapOf card (Frame wins) frame (length memory) map ≡ map
+  pub output-kept : outputOf card (Frame wins) memory map out ≡ out

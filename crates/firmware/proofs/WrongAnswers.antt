@@ -15,25 +15,33 @@
 --   refused-told-bytes     bytes told of a block that was refused
 --   sent-told-as-refused   a number for a block that went out
 --   sent-unfinished        a card that is still to send CMD30's block when it has gone out
+--   won-by-256             a line that was won read as lost, by the low bits of what C says
+--   lost-by-0              one that was lost read as won
+--   refused-rewritten      numbers of no record rewritten by a call that is refused and changes nothing
+--   damage-not-told        the numbers left as they were by a damaged frame, which sets bit 23
 -- Assumes nothing.
-use mathlib.Core.Path.{_≡_}
-use mathlib.Core.List.{[], _∷_}
+use mathlib.Core.Path.{_≡_, sym}
+use mathlib.Core.Bool.{true, false}
+use mathlib.Core.List.{List, [], _∷_}
 use Prim.Native.Nat.{ℕ}
 use native.Mathlib.Omega.{arith}
 use lib.ListN.{getD, replicate}
+use Rattle.base.proofs.Cases.{never}
 use Rattle.base.specs.Refusals.{by}
 use Rattle.base.specs.declared.Written.the-variants.{Bytes, Refused as NotWritten}
 use Rattle.card.specs.BlockOut.{outGood, protectionJudged, outJudged}
 use Rattle.card.specs.declared.Outcome.the-variants.{Wrote, Refused as Unsent}
+use Rattle.command.specs.Command.{damagedLink}
 use Rattle.crc.specs.Bits.{bits}
 use Rattle.crc.specs.Crc.{divide, remainder, checkSum, crc7, crc16}
 use Rattle.crossing.specs.Record.{stateOf, cardOf, numbersOf}
-use Rattle.record.specs.Power.{freshLink, poweredOn, worked}
-use Rattle.record.specs.declared.Card.{Card}
+use Rattle.card_record.specs.Power.{freshLink, poweredOn, worked}
+use Rattle.card_record.specs.Record.{withLink}
+use Rattle.card_record.specs.declared.Card.{Card}
 use Rattle.store.specs.Map.{entriesRight}
 use Rattle.wire.specs.declared.Checked.the-variants.{Refused as NotChecked}
 use Rattle.wire.specs.declared.Frame.the-variants.{Command, Refused}
-use Rattle.firmware.specs.Answers.{outcomeNumber, wroteOf}
+use Rattle.firmware.specs.Answers.{outcomeNumber, numbersAfter, wonBy, wroteOf}
 use Rattle.firmware.specs.Numbers.{writtenNumber, checkedNumber, indexRead, argumentRead}
 
 index-not-told : indexRead (Command 17 0x12345) 0 ≡ 0 → ⊥
@@ -69,8 +77,11 @@ sum-low-first e = omega arith
 
 -- ---- a card
 -- the card of one protection group whose first number, its state, is this one, with a start of sectors among its tags
+abbrev numbered : ℕ → ℕ → List ℕ
+numbered state at = state ∷ at ∷ 7 ∷ 16 ∷ 0 ∷ 1 ∷ 3 ∷ 0 ∷ 0 ∷ 0 ∷ 1 ∷ 0 ∷ []
+
 abbrev card : ℕ → Card
-card state = cardOf (state ∷ 0 ∷ 7 ∷ 16 ∷ 0 ∷ 1 ∷ 3 ∷ 0 ∷ 0 ∷ 0 ∷ 1 ∷ 0 ∷ []) (replicate 16 0) (replicate 16 0) (replicate 16 0)
+card state = cardOf (numbered state 0) (replicate 16 0) (replicate 16 0) (replicate 16 0)
 
 -- a number of a record, by its place
 abbrev at : ℕ → Card → ℕ
@@ -101,3 +112,17 @@ sent-told-as-refused e = omega arith
 sent-unfinished : at 0 (outJudged (card 7) 8192 (0 ∷ []) 6 .stepped .card) ≡ 7 → ⊥
 unfolding numbersOf outJudged protectionJudged outGood cardOf stateOf entriesRight
 sent-unfinished e = omega arith
+
+won-by-256 : wonBy 256 ≡ false → ⊥
+won-by-256 e = never (sym e)
+
+lost-by-0 : wonBy 0 ≡ true → ⊥
+lost-by-0 e = never e
+
+-- a card in tran carries no place: 99 stands for nothing there, and stays
+refused-rewritten : getD (numbersAfter 15 (numbered 4 99) (card 4)) 1 0 ≡ 0 → ⊥
+refused-rewritten e = omega arith
+
+damage-not-told : getD (numbersAfter 3 (numbered 4 0) (withLink (card 4) (damagedLink (card 4 .link)))) 4 0 ≡ 0 → ⊥
+unfolding numbersOf damagedLink cardOf stateOf
+damage-not-told e = omega arith

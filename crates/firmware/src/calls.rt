@@ -1,26 +1,27 @@
 // The calls of one card for C. A record crosses in four parts, which mmc.h puts together as one:
 // twelve numbers, and the bytes of the CID, the CSD and the password. Each call takes the record
-// that they stand for (crates/crossing), calls the card, and tells the next one; its promise is that
-// of the card's call, of every lent number and byte. `stands` says that the parts afterwards stand
-// for the card's next record, so that a row of calls from C is the same row at the card.
+// that they stand for (crates/crossing), calls the card, and tells the next one. Its promise says
+// all that it leaves: its number, each lent number and byte, and that the parts then stand for the
+// card's next record, so that a row of calls from C is the same row at the card.
 use crate::answers::making_number;
 use crate::answers::outcome_number;
+use crate::answers::tell_numbers;
 use crate::answers::wrote;
 use base::Written;
+use card_record::Registers;
 use command::Sent;
 use crossing::card_of;
 use crossing::numbers_of;
-use record::Registers;
 ghost use mathlib.Core.Path.{_≡_};
 ghost use lib.ListN.{length};
 ghost use Rattle.card.specs.BlockIn.{blockJudged, keptOf, storedBy, clearedBy};
 ghost use Rattle.card.specs.BlockOut.{outJudged, sentOut};
-ghost use Rattle.card.specs.Frame.{frameOf, frameJudged, erasedBy, protectedBy};
+ghost use Rattle.card.specs.Frame.{frameStepped, frameJudged, erasedBy, protectedBy};
 ghost use Rattle.command.specs.Sending.{sentBytes, Sendable};
 ghost use Rattle.crossing.specs.Record.{cardOf, numbersOf};
-ghost use Rattle.record.specs.Making.{madeOf};
-ghost use Rattle.record.specs.Power.{poweredOn, worked};
-ghost use Rattle.firmware.specs.Answers.{outcomeNumber, makingNumber, wroteOf, fronted};
+ghost use Rattle.card_record.specs.Making.{madeOf};
+ghost use Rattle.card_record.specs.Power.{poweredOn, worked};
+ghost use Rattle.firmware.specs.Answers.{outcomeNumber, makingNumber, numbersAfter, wonBy, wroteOf, fronted};
 
 // A card made: 7, 8, 9, 10, 11. A refused make leaves the one record that document 01 lets it
 // leave, Inactive and all zeros.
@@ -37,14 +38,17 @@ pub extern "C" fn mmc_parts_make(
     memory: &[u8],
     map: &[u8],
 ) -> u8
-    ensures answer { λ r. ⌜ r ≡ makingNumber (madeOf (now (identifier .entry)) (now (specifics .entry)) ocr (now (secret .entry)) (length (now (memory .entry))) (now (map .entry)) .making) ⌝ }
-    ensures numbers { λ _. ⌜ now (numbers .exit) ≡ numbersOf (madeOf (now (identifier .entry)) (now (specifics .entry)) ocr (now (secret .entry)) (length (now (memory .entry))) (now (map .entry)) .card) ⌝ }
-    ensures cid { λ _. ⌜ now (cid .exit) ≡ madeOf (now (identifier .entry)) (now (specifics .entry)) ocr (now (secret .entry)) (length (now (memory .entry))) (now (map .entry)) .card .registers .cid ⌝ }
-    ensures csd { λ _. ⌜ now (csd .exit) ≡ madeOf (now (identifier .entry)) (now (specifics .entry)) ocr (now (secret .entry)) (length (now (memory .entry))) (now (map .entry)) .card .registers .csd ⌝ }
-    ensures password { λ _. ⌜ now (password .exit) ≡ madeOf (now (identifier .entry)) (now (specifics .entry)) ocr (now (secret .entry)) (length (now (memory .entry))) (now (map .entry)) .card .lock .password ⌝ }
-    ensures stands { λ _. ⌜ cardOf (now (numbers .exit)) (now (cid .exit)) (now (csd .exit)) (now (password .exit)) ≡ madeOf (now (identifier .entry)) (now (specifics .entry)) ocr (now (secret .entry)) (length (now (memory .entry))) (now (map .entry)) .card ⌝ }
+    ensures left { λ r.
+        let made = madeOf (now (identifier .entry)) (now (specifics .entry)) ocr (now (secret .entry))
+        (length (now (memory .entry))) (now (map .entry)) in
+        ⌜ r ≡ makingNumber (made .making) ⌝
+        ∗ ⌜ (now (numbers .exit) ≡ numbersOf (made .card))
+        × (cardOf (now (numbers .exit)) (now (cid .exit)) (now (csd .exit)) (now (password .exit)) ≡ made .card) ⌝
+        ∗ ⌜ now (cid .exit) ≡ made .card .registers .cid ⌝
+        ∗ ⌜ now (csd .exit) ≡ made .card .registers .csd ⌝
+        ∗ ⌜ now (password .exit) ≡ made .card .lock .password ⌝ }
 {
-    let made = record::make(*identifier, *specifics, ocr, secret, memory, map);
+    let made = card_record::make(*identifier, *specifics, ocr, secret, memory, map);
     let card = made.card;
     let making = made.making;
     let registers = card.registers;
@@ -67,11 +71,13 @@ pub extern "C" fn mmc_parts_power_on(
     csd: &[u8; 16],
     password: &[u8; 16],
 )
-    ensures numbers { λ _. ⌜ now (numbers .exit) ≡ numbersOf (poweredOn (cardOf (now (numbers .entry)) (now (cid .entry)) (now (csd .entry)) (now (password .entry)))) ⌝ }
-    ensures stands { λ _. ⌜ cardOf (now (numbers .exit)) (now (cid .entry)) (now (csd .entry)) (now (password .entry)) ≡ poweredOn (cardOf (now (numbers .entry)) (now (cid .entry)) (now (csd .entry)) (now (password .entry))) ⌝ }
+    ensures left { λ _.
+        let next = poweredOn (cardOf (now (numbers .entry)) (now (cid .entry)) (now (csd .entry)) (now (password .entry))) in
+        ⌜ (now (numbers .exit) ≡ numbersOf next)
+        × (cardOf (now (numbers .exit)) (now (cid .entry)) (now (csd .entry)) (now (password .entry)) ≡ next) ⌝ }
 {
     let card = card_of(*numbers, *cid, *csd, *password);
-    let next = record::power_on(card);
+    let next = card_record::power_on(card);
     *numbers = numbers_of(next);
 }
 
@@ -83,11 +89,13 @@ pub extern "C" fn mmc_parts_work_done(
     csd: &[u8; 16],
     password: &[u8; 16],
 )
-    ensures numbers { λ _. ⌜ now (numbers .exit) ≡ numbersOf (worked (cardOf (now (numbers .entry)) (now (cid .entry)) (now (csd .entry)) (now (password .entry)))) ⌝ }
-    ensures stands { λ _. ⌜ cardOf (now (numbers .exit)) (now (cid .entry)) (now (csd .entry)) (now (password .entry)) ≡ worked (cardOf (now (numbers .entry)) (now (cid .entry)) (now (csd .entry)) (now (password .entry))) ⌝ }
+    ensures left { λ _.
+        let next = worked (cardOf (now (numbers .entry)) (now (cid .entry)) (now (csd .entry)) (now (password .entry))) in
+        ⌜ (now (numbers .exit) ≡ numbersOf next)
+        × (cardOf (now (numbers .exit)) (now (cid .entry)) (now (csd .entry)) (now (password .entry)) ≡ next) ⌝ }
 {
     let card = card_of(*numbers, *cid, *csd, *password);
-    let next = record::work_done(card);
+    let next = card_record::work_done(card);
     *numbers = numbers_of(next);
 }
 
@@ -105,38 +113,45 @@ fn send(registers: Registers, sent: Sent, out: &mut [u8; 17]) -> usize
     }
 }
 
-// A frame: 12, 1, 2, 3. What the card sends goes to the front of `answer`, which is as long as the
-// longest answer, and how many bytes it sends to `sent`.
+// A frame: 12, 1, 2, 3. `won` says whether the unit won the line, as a unit that is alone on its line
+// does: 0 that it lost, which CMD2 alone asks. What the card sends goes to the front of `answer`,
+// which is as long as the longest answer, and how many bytes it sends to `sent`.
 #[no_mangle]
 pub extern "C" fn mmc_parts_frame(
     numbers: &mut [u32; 12],
     cid: &[u8; 16],
     csd: &[u8; 16],
     password: &[u8; 16],
+    won: u32,
     frame: &[u8],
     memory: &mut [u8],
     map: &mut [u8],
     answer: &mut [u8; 17],
     sent: &mut usize,
 ) -> u8
-    ensures answer { λ r. ⌜ r ≡ outcomeNumber (frameOf (cardOf (now (numbers .entry)) (now (cid .entry)) (now (csd .entry)) (now (password .entry))) (now (frame .entry)) (length (now (memory .entry))) (now (map .entry)) .reply .outcome) ⌝ }
-    ensures numbers { λ _. ⌜ now (numbers .exit) ≡ numbersOf (frameOf (cardOf (now (numbers .entry)) (now (cid .entry)) (now (csd .entry)) (now (password .entry))) (now (frame .entry)) (length (now (memory .entry))) (now (map .entry)) .card) ⌝ }
-    ensures stands { λ _. ⌜ cardOf (now (numbers .exit)) (now (cid .entry)) (now (csd .entry)) (now (password .entry)) ≡ frameOf (cardOf (now (numbers .entry)) (now (cid .entry)) (now (csd .entry)) (now (password .entry))) (now (frame .entry)) (length (now (memory .entry))) (now (map .entry)) .card ⌝ }
-    ensures memory { λ _. ⌜ now (memory .exit) ≡ erasedBy (cardOf (now (numbers .entry)) (now (cid .entry)) (now (csd .entry)) (now (password .entry))) (now (memory .entry)) (now (map .entry)) (frameJudged (cardOf (now (numbers .entry)) (now (cid .entry)) (now (csd .entry)) (now (password .entry))) (now (frame .entry)) (length (now (memory .entry))) (now (map .entry)) .change) ⌝ }
-    ensures map { λ _. ⌜ now (map .exit) ≡ protectedBy (now (map .entry)) (frameJudged (cardOf (now (numbers .entry)) (now (cid .entry)) (now (csd .entry)) (now (password .entry))) (now (frame .entry)) (length (now (memory .entry))) (now (map .entry)) .change) ⌝ }
-    ensures bytes { λ _. ⌜ now (answer .exit) ≡ fronted (sentBytes ((cardOf (now (numbers .entry)) (now (cid .entry)) (now (csd .entry)) (now (password .entry))) .registers) (frameOf (cardOf (now (numbers .entry)) (now (cid .entry)) (now (csd .entry)) (now (password .entry))) (now (frame .entry)) (length (now (memory .entry))) (now (map .entry)) .reply .sent)) (now (answer .entry)) ⌝ }
-    ensures sent { λ _. ⌜ now (sent .exit) ≡ length (sentBytes ((cardOf (now (numbers .entry)) (now (cid .entry)) (now (csd .entry)) (now (password .entry))) .registers) (frameOf (cardOf (now (numbers .entry)) (now (cid .entry)) (now (csd .entry)) (now (password .entry))) (now (frame .entry)) (length (now (memory .entry))) (now (map .entry)) .reply .sent)) ⌝ }
+    ensures left { λ r.
+        let card = cardOf (now (numbers .entry)) (now (cid .entry)) (now (csd .entry)) (now (password .entry)) in
+        let stepped = frameStepped card (wonBy won) (now (frame .entry)) (length (now (memory .entry))) (now (map .entry)) in
+        let change = frameJudged card (wonBy won) (now (frame .entry)) (length (now (memory .entry))) (now (map .entry)) .change in
+        let bytes = sentBytes (card .registers) (stepped .reply .sent) in
+        ⌜ r ≡ outcomeNumber (stepped .reply .outcome) ⌝
+        ∗ ⌜ (now (numbers .exit) ≡ numbersAfter r (now (numbers .entry)) (stepped .card))
+        × (cardOf (now (numbers .exit)) (now (cid .entry)) (now (csd .entry)) (now (password .entry)) ≡ stepped .card) ⌝
+        ∗ ⌜ now (memory .exit) ≡ erasedBy card (now (memory .entry)) (now (map .entry)) change ⌝
+        ∗ ⌜ now (map .exit) ≡ protectedBy (now (map .entry)) change ⌝
+        ∗ ⌜ (now (answer .exit) ≡ fronted bytes (now (answer .entry))) × (now (sent .exit) ≡ length bytes) ⌝ }
 {
     let card = card_of(*numbers, *cid, *csd, *password);
     let registers = card.registers;
-    let stepped = card::frame(card, frame, memory, map);
+    let stepped = card::frame(card, won != 0, frame, memory, map);
     let next = stepped.card;
     let reply = stepped.reply;
     let outcome = reply.outcome;
     let sends = reply.sent;
-    *numbers = numbers_of(next);
+    let number = outcome_number(outcome);
+    tell_numbers(number, next, numbers);
     *sent = send(registers, sends, answer);
-    outcome_number(outcome)
+    number
 }
 
 // A block in: 12, 15, 16, 17, 18, 19 or 20. Only this call may change the password.
@@ -150,12 +165,16 @@ pub extern "C" fn mmc_parts_block_in(
     memory: &mut [u8],
     map: &mut [u8],
 ) -> u8
-    ensures answer { λ r. ⌜ r ≡ outcomeNumber (blockJudged (cardOf (now (numbers .entry)) (now (cid .entry)) (now (csd .entry)) (now (password .entry))) (now (block .entry)) (length (now (memory .entry))) (now (map .entry)) .stepped .reply .outcome) ⌝ }
-    ensures numbers { λ _. ⌜ now (numbers .exit) ≡ numbersOf (blockJudged (cardOf (now (numbers .entry)) (now (cid .entry)) (now (csd .entry)) (now (password .entry))) (now (block .entry)) (length (now (memory .entry))) (now (map .entry)) .stepped .card) ⌝ }
-    ensures password { λ _. ⌜ now (password .exit) ≡ blockJudged (cardOf (now (numbers .entry)) (now (cid .entry)) (now (csd .entry)) (now (password .entry))) (now (block .entry)) (length (now (memory .entry))) (now (map .entry)) .stepped .card .lock .password ⌝ }
-    ensures stands { λ _. ⌜ cardOf (now (numbers .exit)) (now (cid .entry)) (now (csd .entry)) (now (password .exit)) ≡ blockJudged (cardOf (now (numbers .entry)) (now (cid .entry)) (now (csd .entry)) (now (password .entry))) (now (block .entry)) (length (now (memory .entry))) (now (map .entry)) .stepped .card ⌝ }
-    ensures memory { λ _. ⌜ now (memory .exit) ≡ storedBy (keptOf (now (block .entry))) (now (memory .entry)) (blockJudged (cardOf (now (numbers .entry)) (now (cid .entry)) (now (csd .entry)) (now (password .entry))) (now (block .entry)) (length (now (memory .entry))) (now (map .entry)) .storing) ⌝ }
-    ensures map { λ _. ⌜ now (map .exit) ≡ clearedBy (now (map .entry)) (blockJudged (cardOf (now (numbers .entry)) (now (cid .entry)) (now (csd .entry)) (now (password .entry))) (now (block .entry)) (length (now (memory .entry))) (now (map .entry)) .storing) ⌝ }
+    ensures left { λ r.
+        let card = cardOf (now (numbers .entry)) (now (cid .entry)) (now (csd .entry)) (now (password .entry)) in
+        let judged = blockJudged card (now (block .entry)) (length (now (memory .entry))) (now (map .entry)) in
+        let next = judged .stepped .card in
+        ⌜ r ≡ outcomeNumber (judged .stepped .reply .outcome) ⌝
+        ∗ ⌜ (now (numbers .exit) ≡ numbersAfter r (now (numbers .entry)) next)
+        × (cardOf (now (numbers .exit)) (now (cid .entry)) (now (csd .entry)) (now (password .exit)) ≡ next) ⌝
+        ∗ ⌜ now (password .exit) ≡ next .lock .password ⌝
+        ∗ ⌜ now (memory .exit) ≡ storedBy (keptOf (now (block .entry))) (now (memory .entry)) (judged .storing) ⌝
+        ∗ ⌜ now (map .exit) ≡ clearedBy (now (map .entry)) (judged .storing) ⌝ }
 {
     let card = card_of(*numbers, *cid, *csd, *password);
     let stepped = card::block_in(card, block, memory, map);
@@ -164,9 +183,10 @@ pub extern "C" fn mmc_parts_block_in(
     let outcome = reply.outcome;
     let lock = next.lock;
     let stored = lock.password;
-    *numbers = numbers_of(next);
+    let number = outcome_number(outcome);
+    tell_numbers(number, next, numbers);
     *password = stored;
-    outcome_number(outcome)
+    number
 }
 
 // A block out: 12, 15, 6, 18, 21. How many bytes at the front of `out` are the block goes to
@@ -182,18 +202,23 @@ pub extern "C" fn mmc_parts_block_out(
     out: &mut [u8],
     written: &mut usize,
 ) -> u8
-    ensures answer { λ r. ⌜ r ≡ outcomeNumber (outJudged (cardOf (now (numbers .entry)) (now (cid .entry)) (now (csd .entry)) (now (password .entry))) (length (now (memory .entry))) (now (map .entry)) (length (now (out .entry))) .stepped .reply .outcome) ⌝ }
-    ensures numbers { λ _. ⌜ now (numbers .exit) ≡ numbersOf (outJudged (cardOf (now (numbers .entry)) (now (cid .entry)) (now (csd .entry)) (now (password .entry))) (length (now (memory .entry))) (now (map .entry)) (length (now (out .entry))) .stepped .card) ⌝ }
-    ensures stands { λ _. ⌜ cardOf (now (numbers .exit)) (now (cid .entry)) (now (csd .entry)) (now (password .entry)) ≡ outJudged (cardOf (now (numbers .entry)) (now (cid .entry)) (now (csd .entry)) (now (password .entry))) (length (now (memory .entry))) (now (map .entry)) (length (now (out .entry))) .stepped .card ⌝ }
-    ensures output { λ _. ⌜ now (out .exit) ≡ sentOut (now (memory .entry)) (now (map .entry)) (now (out .entry)) (outJudged (cardOf (now (numbers .entry)) (now (cid .entry)) (now (csd .entry)) (now (password .entry))) (length (now (memory .entry))) (now (map .entry)) (length (now (out .entry))) .sending) ⌝ }
-    ensures written { λ _. ⌜ now (written .exit) ≡ wroteOf (outJudged (cardOf (now (numbers .entry)) (now (cid .entry)) (now (csd .entry)) (now (password .entry))) (length (now (memory .entry))) (now (map .entry)) (length (now (out .entry))) .stepped .reply .outcome) ⌝ }
+    ensures left { λ r.
+        let card = cardOf (now (numbers .entry)) (now (cid .entry)) (now (csd .entry)) (now (password .entry)) in
+        let judged = outJudged card (length (now (memory .entry))) (now (map .entry)) (length (now (out .entry))) in
+        let stepped = judged .stepped in
+        ⌜ r ≡ outcomeNumber (stepped .reply .outcome) ⌝
+        ∗ ⌜ (now (numbers .exit) ≡ numbersAfter r (now (numbers .entry)) (stepped .card))
+        × (cardOf (now (numbers .exit)) (now (cid .entry)) (now (csd .entry)) (now (password .entry)) ≡ stepped .card) ⌝
+        ∗ ⌜ now (out .exit) ≡ sentOut (now (memory .entry)) (now (map .entry)) (now (out .entry)) (judged .sending) ⌝
+        ∗ ⌜ now (written .exit) ≡ wroteOf (stepped .reply .outcome) ⌝ }
 {
     let card = card_of(*numbers, *cid, *csd, *password);
     let stepped = card::block_out(card, memory, map, out);
     let next = stepped.card;
     let reply = stepped.reply;
     let outcome = reply.outcome;
-    *numbers = numbers_of(next);
+    let number = outcome_number(outcome);
+    tell_numbers(number, next, numbers);
     *written = wrote(outcome);
-    outcome_number(outcome)
+    number
 }

@@ -44,9 +44,11 @@ pub extern "C" fn mmc_crc16(bytes: &[u8]) -> u16
 // A command frame read: 1, 2, 3. A refused frame leaves both lent numbers as they were.
 #[no_mangle]
 pub extern "C" fn mmc_read_frame(frame: &[u8], index: &mut u8, argument: &mut u32) -> u8
-    ensures answer { λ r. ⌜ r ≡ frameNumber (frameOf (now (frame .entry))) ⌝ }
-    ensures index { λ _. ⌜ now (index .exit) ≡ indexRead (frameOf (now (frame .entry))) (now (index .entry)) ⌝ }
-    ensures argument { λ _. ⌜ now (argument .exit) ≡ argumentRead (frameOf (now (frame .entry))) (now (argument .entry)) ⌝ }
+    ensures left { λ r.
+        let read = frameOf (now (frame .entry)) in
+        ⌜ r ≡ frameNumber read ⌝
+        ∗ ⌜ now (index .exit) ≡ indexRead read (now (index .entry)) ⌝
+        ∗ ⌜ now (argument .exit) ≡ argumentRead read (now (argument .entry)) ⌝ }
 {
     let read = wire::read_frame(frame);
     match read {
@@ -75,8 +77,10 @@ fn number_written(written: Written) -> u8
 // A command frame written to the front of `out`: 4, 6.
 #[no_mangle]
 pub extern "C" fn mmc_write_command(index: u8, argument: u32, out: &mut [u8]) -> u8
-    ensures answer { λ r. ⌜ r ≡ writtenNumber (indexed index (commandFrame index argument) (now (out .entry))) ⌝ }
-    ensures output { λ _. ⌜ now (out .exit) ≡ laid (indexed index (commandFrame index argument) (now (out .entry))) (commandFrame index argument) (now (out .entry)) ⌝ }
+    ensures left { λ r.
+        let frame = commandFrame index argument in
+        let written = indexed index frame (now (out .entry)) in
+        ⌜ r ≡ writtenNumber written ⌝ ∗ ⌜ now (out .exit) ≡ laid written frame (now (out .entry)) ⌝ }
 {
     let written = wire::write_command(index, argument, out);
     number_written(written)
@@ -85,8 +89,9 @@ pub extern "C" fn mmc_write_command(index: u8, argument: u32, out: &mut [u8]) ->
 // A block written to the front of `out`: 5, 6.
 #[no_mangle]
 pub extern "C" fn mmc_write_block(payload: &[u8], out: &mut [u8]) -> u8
-    ensures answer { λ r. ⌜ r ≡ writtenNumber (blockWritten (now (payload .entry)) (now (out .entry))) ⌝ }
-    ensures output { λ _. ⌜ now (out .exit) ≡ laid (blockWritten (now (payload .entry)) (now (out .entry))) (blockOf (now (payload .entry))) (now (out .entry)) ⌝ }
+    ensures left { λ r.
+        let written = blockWritten (now (payload .entry)) (now (out .entry)) in
+        ⌜ r ≡ writtenNumber written ⌝ ∗ ⌜ now (out .exit) ≡ laid written (blockOf (now (payload .entry))) (now (out .entry)) ⌝ }
 {
     let written = wire::write_block(payload, out);
     number_written(written)

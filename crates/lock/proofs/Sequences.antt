@@ -19,7 +19,7 @@ use lib.Dec.{leb}
 use lib.ListN.{length, take, drop}
 use lib.Seq.{take-append-seam, drop-append-seam}
 use Rattle.base.specs.Refusals.{by}
-use Rattle.lock.specs.Passwords.{stored, holding, noPassword, flagged, poweredOf, madeOf}
+use Rattle.lock.specs.Passwords.{stored, holding, noPassword, flagged, poweredOf, lockMade}
 use Rattle.lock.specs.Requests.{oldOf, newOf, settable, presented, requestOf}
 use Rattle.lock.specs.declared.Answer.the-variants.{Granted}
 use Rattle.lock.specs.declared.Lock.{Lock}
@@ -111,13 +111,13 @@ unfolding poweredOf
 powered-keeps lock = (refl, refl)
 
 pub made-stores : (bytes : List ℕ) → length bytes ≤ 16
-    → (stored (madeOf bytes .lock) ≡ bytes) × (madeOf bytes .lock .locked ≡ leb 1 (length bytes)) × (madeOf bytes .making ≡ Done)
-unfolding madeOf poweredOf stored
+    → (stored (lockMade bytes .lock) ≡ bytes) × (lockMade bytes .lock .locked ≡ leb 1 (length bytes)) × (lockMade bytes .making ≡ Done)
+unfolding lockMade poweredOf stored
 made-stores bytes h =
     let s = stored-holding bytes false h in
     let t = le-leb (length bytes) 16 h in
     (simp t s, simp t (ap (λ (l : List ℕ). leb 1 (length l)) s), simp t)
 
-pub made-refuses : (bytes : List ℕ) → 16 < length bytes → madeOf bytes ≡ record { lock = noPassword; making = Refused (by 11) }
-unfolding madeOf
+pub made-refuses : (bytes : List ℕ) → 16 < length bytes → lockMade bytes ≡ record { lock = noPassword; making = Refused (by 11) }
+unfolding lockMade
 made-refuses bytes h = simp (lt-leb (length bytes) 16 h)

@@ -20,8 +20,8 @@ use Prim.Native.Nat.{ℕ}
 use native.Mathlib.Omega.{arith}
 use lib.ListN.{getD, replicate}
 use Rattle.base.proofs.Cases.{clash, never}
-use Rattle.lock.specs.Passwords.{stored, same, holding, noPassword, poweredOf, madeOf}
-use Rattle.lock.specs.Requests.{carried, oldOf, newOf, settable, presented, requestOf}
+use Rattle.lock.specs.Passwords.{stored, same, holding, noPassword, poweredOf, lockMade}
+use Rattle.lock.specs.Requests.{passwordIn, oldOf, newOf, settable, presented, requestOf}
 use Rattle.lock.specs.declared.Answer.the-variants.{Granted, Erased, Failed}
 use Rattle.lock.specs.declared.Lock.{Lock}
 
@@ -44,20 +44,20 @@ powered-unlocks : poweredOf locked .locked ≡ false → ⊥
 unfolding holding poweredOf stored
 powered-unlocks e = never (sym e)
 
-made-unlocked : madeOf (7 ∷ 9 ∷ []) .lock .locked ≡ false → ⊥
-unfolding madeOf holding poweredOf stored
+made-unlocked : lockMade (7 ∷ 9 ∷ []) .lock .locked ≡ false → ⊥
+unfolding lockMade holding poweredOf stored
 made-unlocked e = never (sym e)
 
 prefix-unlocks : requestOf locked (0 ∷ 1 ∷ 7 ∷ []) false .answer ≡ Granted → ⊥
-unfolding requestOf presented carried same stored holding
+unfolding requestOf presented passwordIn same stored holding
 prefix-unlocks e = clash cc
 
 longer-unlocks : requestOf locked (0 ∷ 3 ∷ 7 ∷ 9 ∷ 0 ∷ []) false .answer ≡ Granted → ⊥
-unfolding requestOf presented carried same stored holding
+unfolding requestOf presented passwordIn same stored holding
 longer-unlocks e = clash cc
 
 set-without-old : requestOf unlocked (1 ∷ 2 ∷ 5 ∷ 5 ∷ []) false .answer ≡ Granted → ⊥
-unfolding requestOf settable oldOf newOf carried same stored holding
+unfolding requestOf settable oldOf newOf passwordIn same stored holding
 set-without-old e = clash cc
 
 erase-unlocked : requestOf unlocked (8 ∷ []) false .answer ≡ Erased → ⊥
@@ -65,11 +65,11 @@ unfolding requestOf holding
 erase-unlocked e = clash cc
 
 new-of-17 : requestOf unlocked (1 ∷ 19 ∷ 7 ∷ 9 ∷ replicate 17 5) false .answer ≡ Granted → ⊥
-unfolding requestOf settable oldOf newOf carried same stored holding
+unfolding requestOf settable oldOf newOf passwordIn same stored holding
 new-of-17 e = clash cc
 
 surplus-refused : requestOf unlocked (2 ∷ 2 ∷ 7 ∷ 9 ∷ 255 ∷ []) false .answer ≡ Failed → ⊥
-unfolding requestOf presented carried same stored holding
+unfolding requestOf presented passwordIn same stored holding
 surplus-refused e = clash cc
 
 six-locks : requestOf unlocked (6 ∷ 2 ∷ 7 ∷ 9 ∷ []) false .answer ≡ Granted → ⊥
@@ -77,5 +77,5 @@ unfolding requestOf holding
 six-locks e = clash cc
 
 cleared-leaves-bytes : requestOf unlocked (2 ∷ 2 ∷ 7 ∷ 9 ∷ []) false .lock .password ≡ unlocked .password → ⊥
-unfolding requestOf presented carried same stored holding
+unfolding requestOf presented passwordIn same stored holding
 cleared-leaves-bytes e = let z : _≡_ {A = ℕ} 0 7 = ap (λ (l : List ℕ). getD l 0 0) e in omega arith

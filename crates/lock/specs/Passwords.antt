@@ -12,12 +12,12 @@ use Rattle.lock.specs.declared.Made.{Made}
 use Rattle.lock.specs.declared.Making.the-variants.{Done, Refused}
 
 -- the most bytes of a password
-abbrev pub longest : ℕ
-longest = 16
+abbrev pub longestPassword : ℕ
+longestPassword = 16
 
 -- the bytes of the password: as many as the record's length says; a length over 16 reads as 16
 unfoldable pub stored : Lock → List ℕ
-stored lock = take (min (lock .length) longest) (lock .password)
+stored lock = take (min (lock .length) longestPassword) (lock .password)
 
 -- whether two lists of bytes are the same: as long, and equal at each place
 unfoldable pub same : List ℕ → List ℕ → Bool
@@ -28,7 +28,7 @@ same (x ∷ xs) (y ∷ ys) = pick (eqb x y) (same xs ys) false
 
 -- a record of a password and a flag: zeros stand behind the password
 unfoldable pub holding : List ℕ → Bool → Lock
-holding bytes locked = record { password = bytes ++ replicate (longest - length bytes) 0; length = length bytes; locked = locked }
+holding bytes locked = record { password = bytes ++ replicate (longestPassword - length bytes) 0; length = length bytes; locked = locked }
 
 -- no password, unlocked
 abbrev pub noPassword : Lock
@@ -43,7 +43,7 @@ unfoldable pub poweredOf : Lock → Lock
 poweredOf lock = flagged lock (leb 1 (length (stored lock)))
 
 -- 11: "password over 16 bytes"; "a made card is as after power-on"
-unfoldable pub madeOf : List ℕ → Made
-madeOf bytes =
-    unless (leb (length bytes) longest) (record { lock = noPassword; making = Refused (by 11) })
+unfoldable pub lockMade : List ℕ → Made
+lockMade bytes =
+    unless (leb (length bytes) longestPassword) (record { lock = noPassword; making = Refused (by 11) })
     (record { lock = poweredOf (holding bytes false); making = Done })

@@ -1,15 +1,16 @@
 // The password of a card with its lock flag, and the requests of CMD42 on them (document 01,
 // "Reading, writing, erasing, locking"). Any record may come in: a length over 16 reads as 16.
 //
-// Offers: `Lock`, `no_password`, `powered`; `Making`, `Made`, `make`; `Asked`, `Answer`,
+// Offers: `Lock`, `no_password`, `powered`; `Making`, `Made`, `make`; `Operation`, `Answer`,
 // `Requested`, `request`.
 use base::Refusal;
+use base::copy;
 ghost use mathlib.Core.Bool.{not};
 ghost use mathlib.Core.Path.{_≡_};
 ghost use Prim.Native.Nat.{_+_, _≤_};
 ghost use lib.ListN.{length, take, drop};
-ghost use Rattle.lock.specs.Passwords.{longest, stored, same, holding, noPassword, flagged, poweredOf, madeOf};
-ghost use Rattle.lock.specs.Requests.{askedBy, whole, newOf, settable, presented, allowed, failed, grantedIf, erasedIf, doneOf, requestOf};
+ghost use Rattle.lock.specs.Passwords.{longestPassword, stored, same, holding, noPassword, flagged, poweredOf, lockMade};
+ghost use Rattle.lock.specs.Requests.{askedBy, longEnough, newOf, settable, presented, allowed, requestFailed, grantedIf, erasedIf, doneOf, requestOf};
 
 // The password is the first `length` bytes; a length of 0 means none.
 pub struct Lock {
@@ -31,7 +32,7 @@ pub struct Made {
 }
 
 // What a lock request asks for.
-pub enum Asked {
+pub enum Operation {
     Unlock,
     Set,
     Clear,
@@ -66,18 +67,14 @@ pub fn no_password() -> Lock
 
 // A record of a password and a flag, with zeros behind the password.
 fn holding(bytes: &[u8], locked: bool) -> Lock
-    requires { ⌜ length (now bytes) ≤ longest ⌝ }
+    requires { ⌜ length (now bytes) ≤ longestPassword ⌝ }
     ensures { λ r. ⌜ r ≡ holding (now (bytes .entry)) locked ⌝ }
 {
     let mut password = [0; 16];
-    let mut i: usize = 0;
-    while i < bytes.len() {
-        password[i] = bytes[i];
-        i += 1;
-    }
+    copy(bytes, &mut password, 0);
     Lock {
         password,
-        length: i as u8,
+        length: bytes.len() as u8,
         locked,
     }
 }
@@ -85,7 +82,7 @@ fn holding(bytes: &[u8], locked: bool) -> Lock
 // How many bytes the stored password has.
 fn held(lock: Lock) -> usize
     ensures answer { λ r. ⌜ r ≡ length (stored lock) ⌝ }
-    ensures bound { λ r. ⌜ r ≤ longest ⌝ }
+    ensures bound { λ r. ⌜ r ≤ longestPassword ⌝ }
 {
     if 16 < lock.length {
         return 16;
@@ -109,7 +106,7 @@ pub fn powered(lock: Lock) -> Lock
 
 // The record of a card made with a password: 11.
 pub fn make(password: &[u8]) -> Made
-    ensures answer { λ r. ⌜ r ≡ madeOf (now (password .entry)) ⌝ }
+    ensures answer { λ r. ⌜ r ≡ lockMade (now (password .entry)) ⌝ }
 {
     if 16 < password.len() {
         return Made {
@@ -124,8 +121,8 @@ pub fn make(password: &[u8]) -> Made
 }
 
 // Whether the block has byte 1 and as many bytes behind it as that says.
-fn whole(payload: &[u8]) -> bool
-    ensures { λ r. ⌜ r ≡ whole (now (payload .entry)) ⌝ }
+fn long_enough(payload: &[u8]) -> bool
+    ensures { λ r. ⌜ r ≡ longEnough (now (payload .entry)) ⌝ }
 {
     if payload.len() < 2 {
         return false;
@@ -154,7 +151,7 @@ fn matches(lock: Lock, payload: &[u8]) -> bool
 fn presented(lock: Lock, payload: &[u8]) -> bool
     ensures { λ r. ⌜ r ≡ presented lock (now (payload .entry)) ⌝ }
 {
-    if !whole(payload) {
+    if !long_enough(payload) {
         return false;
     }
     let n = held(lock);
@@ -171,7 +168,7 @@ fn presented(lock: Lock, payload: &[u8]) -> bool
 fn settable(lock: Lock, payload: &[u8]) -> bool
     ensures { λ r. ⌜ r ≡ settable lock (now (payload .entry)) ⌝ }
 {
-    if !whole(payload) {
+    if !long_enough(payload) {
         return false;
     }
     let told = payload[1] as usize;
@@ -186,7 +183,7 @@ fn settable(lock: Lock, payload: &[u8]) -> bool
 }
 
 fn failed(lock: Lock) -> Requested
-    ensures { λ r. ⌜ r ≡ failed lock ⌝ }
+    ensures { λ r. ⌜ r ≡ requestFailed lock ⌝ }
 {
     Requested {
         lock,
@@ -236,17 +233,17 @@ fn forced_erase(lock: Lock, protected: bool) -> Requested
 }
 
 // The request that byte 0 names.
-fn asked_by(byte: u8) -> Asked
+fn asked_by(byte: u8) -> Operation
     ensures { λ r. ⌜ r ≡ askedBy byte ⌝ }
 {
     match byte {
-        0 => Asked::Unlock,
-        1 => Asked::Set,
-        2 => Asked::Clear,
-        4 => Asked::Lock,
-        5 => Asked::SetAndLock,
-        8 => Asked::ForcedErase,
-        _ => Asked::Unknown,
+        0 => Operation::Unlock,
+        1 => Operation::Set,
+        2 => Operation::Clear,
+        4 => Operation::Lock,
+        5 => Operation::SetAndLock,
+        8 => Operation::ForcedErase,
+        _ => Operation::Unknown,
     }
 }
 
@@ -261,17 +258,17 @@ fn allowed(byte: u8, locked: bool) -> bool
     }
 }
 
-fn done(asked: Asked, lock: Lock, payload: &[u8], protected: bool) -> Requested
+fn done(asked: Operation, lock: Lock, payload: &[u8], protected: bool) -> Requested
     ensures { λ r. ⌜ r ≡ doneOf asked lock (now (payload .entry)) protected ⌝ }
 {
     match asked {
-        Asked::Unlock => for_password(lock, payload, flagged(lock, false)),
-        Asked::Set => set_password(lock, payload, lock.locked),
-        Asked::Clear => for_password(lock, payload, no_password()),
-        Asked::Lock => for_password(lock, payload, flagged(lock, true)),
-        Asked::SetAndLock => set_password(lock, payload, true),
-        Asked::ForcedErase => forced_erase(lock, protected),
-        Asked::Unknown => failed(lock),
+        Operation::Unlock => for_password(lock, payload, flagged(lock, false)),
+        Operation::Set => set_password(lock, payload, lock.locked),
+        Operation::Clear => for_password(lock, payload, no_password()),
+        Operation::Lock => for_password(lock, payload, flagged(lock, true)),
+        Operation::SetAndLock => set_password(lock, payload, true),
+        Operation::ForcedErase => forced_erase(lock, protected),
+        Operation::Unknown => failed(lock),
     }
 }
 

@@ -14,9 +14,9 @@ use Rattle.card.specs.BlockOut.{outRefused, outGood, afterSent, outJudged}
 use Rattle.card.specs.declared.BlockJudged.{BlockJudged}
 use Rattle.card.specs.declared.OutJudged.{OutJudged}
 use Rattle.lock.specs.declared.Lock.{Lock}
-use Rattle.record.specs.Record.{sizeOf, csdProtects, withState, withErrors, withLink, withLock}
-use Rattle.record.specs.declared.Card.{Card}
-use Rattle.record.specs.declared.Link.{Link}
+use Rattle.card_record.specs.Record.{sizeOf, csdProtects, withState, withErrors, withLink, withLock}
+use Rattle.card_record.specs.declared.Card.{Card}
+use Rattle.card_record.specs.declared.Link.{Link}
 use Rattle.states.specs.declared.Incoming.{Incoming}
 use Rattle.states.specs.declared.Incoming.the-variants.{One, Many, LockRequest}
 use Rattle.states.specs.declared.Outgoing.{Outgoing}
@@ -29,7 +29,7 @@ use Rattle.status.specs.declared.ErrorBit.{ErrorBit}
 use Rattle.status.specs.declared.Errors.{Errors}
 use Rattle.status.specs.declared.Fault.{Fault}
 use Rattle.tags.specs.Tagging.{anyOf}
-use Rattle.wire.specs.Blocks.{carried}
+use Rattle.wire.specs.Blocks.{payloadOf}
 use Rattle.made.proofs.Locks.{request-made}
 use Rattle.made.proofs.Pending.{set-pending}
 use Rattle.made.specs.Made.{Sends, Awaits, Waits, Pending, MadeLink, Made}
@@ -103,7 +103,7 @@ module _ (card : Card) (made : Made card) where
       let lock : Lock = askedOf card block .lock in
       record {
         registers = made .registers;
-        lock = request-made (card .lock) (made .lock) (carried block) (csdProtects (card .registers .csd));
+        lock = request-made (card .lock) (made .lock) (payloadOf block) (csdProtects (card .registers .csd));
         link = relinked (card .registers .groups) (card .lock .locked) (lock .locked) (card .link) Prg (card .link .errors) (made .link) (rcv-untagged LockRequest on) tt (made .link .errors);
       }
 

@@ -22,8 +22,8 @@ use Rattle.moves.specs.Rows.{own, transferRow, rowOf}
 use Rattle.moves.specs.declared.Move.the-variants.{To}
 use Rattle.moves.specs.declared.Row.{Row}
 use Rattle.moves.specs.declared.Row.the-variants.{GoIdleState, SetRelativeAddr, SetDsr, StopTransmission, SendStatus, SetOrTag, Read, Write, Program, OtherAddress, Unsupported}
-use Rattle.record.specs.Record.{sizeOf, lengthRead, withState, withTags}
-use Rattle.record.specs.declared.Link.{Link}
+use Rattle.card_record.specs.Record.{sizeOf, lengthRead, withState, withTags}
+use Rattle.card_record.specs.declared.Link.{Link}
 use Rattle.states.specs.States.{columnOf}
 use Rattle.states.specs.declared.Column.{Column}
 use Rattle.states.specs.declared.Column.the-variants as to

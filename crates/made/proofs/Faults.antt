@@ -11,11 +11,12 @@ use Rattle.base.proofs.Cases.{clash, passed}
 use Rattle.base.specs.Choice.{unless}
 use Rattle.command.specs.Arguments.{addressFault, lengthFault, readFault, writeFault, groupFault}
 use Rattle.command.specs.Obey.{passesLock}
-use Rattle.record.specs.Record.{crosses, longest}
+use Rattle.card_record.specs.Record.{crosses}
 use Rattle.status.specs.ErrorBits.{errorBit}
 use Rattle.status.specs.declared.ErrorBit.{ErrorBit}
 use Rattle.status.specs.declared.Fault.{Fault}
 use Rattle.status.specs.declared.Fault.the-variants.{None, Bit}
+use Rattle.wire.specs.Blocks.{longestBlock}
 
 -- a test that would have set a bit held, and so did those behind it
 right : (t : Bool) (bit : ErrorBit) (rest : Fault) → unless t (Bit bit) rest ≡ None → (t ≡ true) × (rest ≡ None)
@@ -28,8 +29,8 @@ module _ (argument : ℕ) where
   pub length-right : lengthFault argument ≡ None → (1 ≤ argument) × (argument ≤ 2048)
   length-right e =
       let some = right (leb 1 argument) (errorBit 29) _ e in
-      let few = right (leb argument longest) (errorBit 29) None (some .1) in
-      (leb-true 1 argument (some .0), leb-true argument longest (few .0))
+      let few = right (leb argument longestBlock) (errorBit 29) None (some .1) in
+      (leb-true 1 argument (some .0), leb-true argument longestBlock (few .0))
 
   pub read-right : (length size : ℕ) → readFault argument length size ≡ None → (argument + length ≤ size) × (crosses argument length ≡ false)
   read-right length size e =

@@ -6,7 +6,7 @@ use mathlib.Core.List.{List, [], _∷_}
 use Prim.Native.Nat.{ℕ, _<_}
 use native.Mathlib.Omega.{arith}
 use Rattle.base.proofs.Cases.{clash}
-use Rattle.base.specs.Refusals.{numberOf, by}
+use Rattle.base.specs.Refusals.{numberOf, refusalOf}
 use Rattle.base.specs.declared.Refusal.{Refusal}
 use Rattle.card.proofs.Outcomes.{one, only, sectors, Refuses, wrong-length, wrong-crc, past-end, protected, failed, InOutcome, unreads, refuses, stores, grants, forces, block-outcome}
 use Rattle.card.specs.BlockIn.{sectorAt, blockRefused, blockGood}
@@ -15,7 +15,7 @@ use Rattle.card.specs.declared.BlockJudged.{BlockJudged}
 use Rattle.card.specs.declared.Call.the-variants.{BlockIn}
 use Rattle.card.specs.declared.Outcome.the-variants.{Refused}
 use Rattle.moves.proofs.Among.{each}
-use Rattle.record.specs.declared.Card.{Card}
+use Rattle.card_record.specs.declared.Card.{Card}
 use Rattle.states.specs.declared.Incoming.{Incoming}
 use Rattle.states.specs.declared.Incoming.the-variants.{One}
 use Rattle.states.specs.declared.State.the-variants.{Rcv}
@@ -46,7 +46,7 @@ module _ (card : Card) (made : Made card) (at : ℕ) (awaits : card .link .state
     not-18 : {judged : BlockJudged} → InOutcome card block memory map judged → refusedBy refusal judged → numberOf refusal ≡ 18 → ⊥
     unfolding blockRefused blockGood
     not-18 (unreads n listed) e is =
-        each (λ (k : ℕ). by k ≡ refusal → ⊥) (12 ∷ 15 ∷ []) (λ z. omega (arith, ap numberOf z), (λ z. omega (arith, ap numberOf z), tt)) n listed (cc)
+        each (λ (k : ℕ). refusalOf k ≡ refusal → ⊥) (12 ∷ 15 ∷ []) (λ z. omega (arith, ap numberOf z), (λ z. omega (arith, ap numberOf z), tt)) n listed (cc)
     not-18 (refuses incoming other fault on why) e is = let z : other ≡ refusal = cc in refusal-other incoming on why (ap numberOf z ∙ is)
     not-18 (stores incoming other w on right) e is = clash cc
     not-18 (grants on granted) e is = clash cc

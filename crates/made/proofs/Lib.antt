@@ -2,11 +2,14 @@ pub mod Blocks
 pub mod Commands
 pub mod Faults
 pub mod InRange
+pub mod Kept
+pub mod Lent
 pub mod Links
 pub mod Locks
+pub mod Never12
 pub mod Pending
 pub mod Reached
-pub mod Registers
 pub mod Run
 pub mod Stays
 pub mod Taken
+pub mod Took

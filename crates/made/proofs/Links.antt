@@ -16,10 +16,10 @@ use Rattle.command.specs.Command.{damagedLink}
 use Rattle.command.specs.Obey.{stateAt}
 use Rattle.command.specs.declared.Response.{Response}
 use Rattle.command.specs.declared.Response.the-variants.{Nothing, R1, R2, R3}
-use Rattle.record.specs.Power.{freshLink}
-use Rattle.record.specs.Record.{withErrors}
-use Rattle.record.specs.declared.Link.{Link}
-use Rattle.states.specs.States.{columnOf, numberOf}
+use Rattle.card_record.specs.Power.{freshLink}
+use Rattle.card_record.specs.Record.{withErrors}
+use Rattle.card_record.specs.declared.Link.{Link}
+use Rattle.states.specs.States.{columnOf, columnNumber}
 use Rattle.states.specs.declared.Column.{Column}
 use Rattle.states.specs.declared.Column.the-variants.{Idle, Ready, Ident, Stby, Tran, Data, Rcv, Prg, Dis, Ina}
 use Rattle.states.specs.declared.State.{State}
@@ -41,7 +41,7 @@ errors-made groups locked link errors made pending =
 pub damaged-made : (groups : ℕ) (locked : Bool) (link : Link) → MadeLink groups locked link → MadeLink groups locked (damagedLink link)
 unfolding damagedLink
 damaged-made groups locked link made =
-    picked (MadeLink groups locked) (eqb (numberOf (columnOf (link .state))) 9) (λ t. made)
+    picked (MadeLink groups locked) (eqb (columnNumber (columnOf (link .state))) 9) (λ t. made)
     (λ t. errors-made groups locked link (withBit (link .errors) (errorBit 23)) made (set-pending (link .errors) (errorBit 23) refl (made .errors)))
 
 pub at-waits : (groups length : ℕ) (locked : Bool) (column : Column) (work : State) → Waits groups length locked work → Waits groups length locked (stateAt column work)

@@ -15,10 +15,10 @@ use lib.ListN.{length, take, replicate, getD, take-append-drop}
 use Rattle.base.proofs.Cases.{guarded, never}
 use Rattle.lock.proofs.Carried.{new-length, presented-parts, settable-parts}
 use Rattle.lock.proofs.Stored.{stored-length, zeros-behind}
-use Rattle.lock.specs.Passwords.{stored, holding, noPassword, flagged, poweredOf, madeOf}
+use Rattle.lock.specs.Passwords.{stored, holding, noPassword, flagged, poweredOf, lockMade}
 use Rattle.lock.specs.Requests.{askedBy, newOf, settable, presented, allowed, grantedIf, doneOf, requestOf}
-use Rattle.lock.specs.declared.Asked.{Asked}
-use Rattle.lock.specs.declared.Asked.the-variants.{Unlock, Set, Clear, Lock as ToLock, SetAndLock, ForcedErase, Unknown}
+use Rattle.lock.specs.declared.Operation.{Operation}
+use Rattle.lock.specs.declared.Operation.the-variants.{Unlock, Set, Clear, Lock as ToLock, SetAndLock, ForcedErase, Unknown}
 use Rattle.lock.specs.declared.Lock.{Lock}
 use Rattle.lock.specs.declared.Made.{Made as LockMade}
 use Rattle.lock.specs.declared.Requested.{Requested}
@@ -64,7 +64,7 @@ module _ (lock : Lock) (made : MadeLock lock) where
       let long = new-length lock payload (length (stored lock)) refl (parts .0) in
       holding-made (newOf lock payload) locked (omega arith) (λ e. omega arith)
 
-  done-made : (asked : Asked) (payload : List ℕ) (protected : Bool) → MadeLock (doneOf asked lock payload protected .lock)
+  done-made : (asked : Operation) (payload : List ℕ) (protected : Bool) → MadeLock (doneOf asked lock payload protected .lock)
   done-made Unlock payload protected =
       granted (presented lock payload) (flagged lock false) (λ t. flagged-made false (λ e. presented-parts lock payload t .0))
   done-made Set payload protected = granted (settable lock payload) _ (set-made payload (lock .locked))
@@ -83,8 +83,8 @@ module _ (lock : Lock) (made : MadeLock lock) where
       guarded (λ (r : Requested). MadeLock (r .lock)) (allowed (getD payload 0 0) (lock .locked)) (λ e. made)
       (λ e. done-made (askedBy (getD payload 0 0)) payload protected))
 
-pub made-made : (password : List ℕ) → MadeLock (madeOf password .lock)
-unfolding madeOf
+pub made-made : (password : List ℕ) → MadeLock (lockMade password .lock)
+unfolding lockMade
 made-made password =
     guarded (λ (m : LockMade). MadeLock (m .lock)) (leb (length password) 16) (λ e. none-made)
     (λ e. powered-made (holding password false) (holding-made password false (leb-true (length password) 16 e) (λ e. never e)))

@@ -9,7 +9,7 @@ use Prim.Native.Nat.{ℕ, _-_, _^_}
 use lib.Bits.{bitAnd, bitOr, and-comm}
 use Rattle.status.proofs.Bits.{and-assoc, and-or}
 use Rattle.status.specs.ErrorBits.{placeOf, errorBit, wordWith}
-use Rattle.status.specs.Status.{noErrors, withBit, takenOf}
+use Rattle.status.specs.Status.{noErrors, withBit, commandBitsCleared}
 use Rattle.status.specs.declared.ErrorBit.{ErrorBit}
 use Rattle.status.specs.declared.Errors.{Errors}
 use Rattle.made.specs.Made.{pendingBits, Pending}
@@ -24,7 +24,7 @@ none-pending = refl
 pub set-pending : (errors : Errors) (bit : ErrorBit) → bitAnd (2 ^ placeOf bit) listed ≡ 2 ^ placeOf bit → Pending errors → Pending (withBit errors bit)
 set-pending errors bit one h = and-or (errors .bits) (2 ^ placeOf bit) listed ∙ ap₂ bitOr h one
 
-pub taken-pending : (errors : Errors) → Pending errors → Pending (takenOf errors)
+pub taken-pending : (errors : Errors) → Pending errors → Pending (commandBitsCleared errors)
 taken-pending errors h =
     let others : ℕ = 2 ^ 32 - 1 - wordWith (errorBit 23 ∷ errorBit 22 ∷ []) in
     and-assoc (errors .bits) others listed

@@ -1,14 +1,17 @@
 -- What a made card reaches, computed: neither making nor the states that `Made` speaks of are out of reach, and there are records that are not made.
 --   made-some          a card of 8,192 bytes is made, and not refused
 --   reaches-one        five frames take it to where it awaits one block, at 512
+--   loser-waits        one that lost CMD2 is passed over by CMD3: it stays in Ready, at its old address
+--   loser-reached      and takes the address of the round that it wins
 --   refused-unmade     the record that a refused make returns is not made
 -- Assumes nothing.
 use mathlib.Core.Path.{_≡_, refl}
+use mathlib.Core.Bool.{true, false}
 use mathlib.Core.List.{List, [], _∷_, _++_, map}
 use Prim.Native.Nat.{ℕ}
 use native.Mathlib.Omega.{arith}
 use lib.ListN.{replicate}
-use Rattle.card.specs.Frame.{frameJudged, frameOf}
+use Rattle.card.specs.Frame.{frameJudged, frameStepped}
 use Rattle.card.specs.declared.Call.the-variants.{Frame}
 use Rattle.command.specs.Answers.{responseOf, answered}
 use Rattle.command.specs.Arguments.{argumentFault}
@@ -16,24 +19,24 @@ use Rattle.command.specs.Command.{resetTold, concluded, takenOf, commandOf}
 use Rattle.command.specs.Obey.{taggingOf, judgedOf, awaitedBy, obeyed, changeOf}
 use Rattle.crc.specs.Bits.{bits}
 use Rattle.crc.specs.Crc.{divide, remainder}
-use Rattle.lock.specs.Passwords.{stored, holding, poweredOf, madeOf as lockMadeOf}
+use Rattle.lock.specs.Passwords.{stored, holding, poweredOf, lockMade as lockMadeOf}
 use Rattle.moves.specs.Classes.{classOf}
 use Rattle.moves.specs.Moves.{moveOf}
 use Rattle.moves.specs.Rows.{transferRow, rowOf}
-use Rattle.record.specs.Making.{refusedMake, passwordMade, madeOf}
-use Rattle.record.specs.Power.{freshLink}
-use Rattle.record.specs.declared.Making.the-variants.{Done}
+use Rattle.card_record.specs.Making.{refusedMake, passwordMade, madeOf}
+use Rattle.card_record.specs.Power.{freshLink}
+use Rattle.card_record.specs.declared.Making.the-variants.{Done}
 use Rattle.states.specs.declared.Incoming.the-variants.{One}
-use Rattle.states.specs.declared.State.the-variants.{Rcv}
+use Rattle.states.specs.declared.State.the-variants.{Stby, Rcv}
 use Rattle.status.specs.Status.{wordOf}
 use Rattle.store.specs.Map.{entriesRight}
-use Rattle.wire.specs.Frames.{crc7Of, sealed, commandFrame, sentOf, framingOf}
+use Rattle.wire.specs.Frames.{crc7Of, sealed, commandFrame, fieldsOf, framingOf}
 use Rattle.wire.specs.Responses.{lastByte, registerRight}
 use Rattle.made.specs.Made.{Made}
-use Rattle.made.specs.Run.{Input, runOf, begun}
+use Rattle.made.specs.Run.{World, Input, given, next, runOf, begun}
 
 -- "CSD is 15 zero bytes and 01, OCR 00FF8000, one erased 8,192-byte memory, map entry 0, no password"
-abbrev register : List ℕ
+abbrev pub register : List ℕ
 register = replicate 15 0 ++ (1 ∷ [])
 
 pub made-some : madeOf register register 0x00FF8000 [] 8192 (0 ∷ []) .making ≡ Done
@@ -43,12 +46,30 @@ made-some = refl
 -- CMD1 of the window, CMD2, CMD3 to address 1, CMD7 to it, CMD24 at 512
 abbrev written : List Input
 written =
-    map (λ (bytes : List ℕ). record { call = Frame; bytes = bytes; output = [] })
+    map (given (Frame true))
     (commandFrame 1 0x00FF8000 ∷ commandFrame 2 0 ∷ commandFrame 3 0x00010000 ∷ commandFrame 7 0x00010000 ∷ commandFrame 24 512 ∷ [])
 
 pub reaches-one : runOf (begun register register 0x00FF8000 [] (replicate 8192 0xFF) (0 ∷ [])) written .card .link .state ≡ Rcv (One 512)
-unfolding runOf madeOf passwordMade lockMadeOf holding poweredOf stored registerRight lastByte crc7Of remainder divide bits entriesRight commandFrame sealed framingOf sentOf freshLink frameOf frameJudged commandOf rowOf transferRow moveOf classOf takenOf concluded answered responseOf resetTold wordOf judgedOf taggingOf argumentFault obeyed awaitedBy changeOf
+unfolding runOf next madeOf passwordMade lockMadeOf holding poweredOf stored registerRight lastByte crc7Of remainder divide bits entriesRight commandFrame sealed framingOf fieldsOf freshLink frameStepped frameJudged commandOf rowOf transferRow moveOf classOf takenOf concluded answered responseOf resetTold wordOf judgedOf taggingOf argumentFault obeyed awaitedBy changeOf
 reaches-one = refl
+
+-- CMD1 of the window, and a round of CMD2 and CMD3 for each verdict of the line, with addresses from 2 on
+abbrev opened : World
+opened = next (begun register register 0x00FF8000 [] (replicate 8192 0xFF) (0 ∷ [])) (given (Frame true) (commandFrame 1 0x00FF8000))
+
+abbrev lost : World
+lost = runOf opened (given (Frame false) (commandFrame 2 0) ∷ given (Frame true) (commandFrame 3 0x00020000) ∷ [])
+
+abbrev won : World
+won = runOf lost (given (Frame true) (commandFrame 2 0) ∷ given (Frame true) (commandFrame 3 0x00030000) ∷ [])
+
+pub loser-waits : lost ≡ opened
+unfolding runOf next madeOf passwordMade lockMadeOf holding poweredOf stored registerRight lastByte crc7Of remainder divide bits entriesRight commandFrame sealed framingOf fieldsOf freshLink frameStepped frameJudged commandOf rowOf transferRow moveOf classOf takenOf concluded answered responseOf resetTold wordOf judgedOf taggingOf argumentFault obeyed awaitedBy changeOf
+loser-waits = refl
+
+pub loser-reached : (won .card .link .state ≡ Stby) × (won .card .link .address ≡ 3)
+unfolding runOf next madeOf passwordMade lockMadeOf holding poweredOf stored registerRight lastByte crc7Of remainder divide bits entriesRight commandFrame sealed framingOf fieldsOf freshLink frameStepped frameJudged commandOf rowOf transferRow moveOf classOf takenOf concluded answered responseOf resetTold wordOf judgedOf taggingOf argumentFault obeyed awaitedBy changeOf
+loser-reached = (refl, refl)
 
 pub refused-unmade : Made refusedMake → ⊥
 unfolding refusedMake

@@ -1,4 +1,4 @@
--- A run of calls, whatever the calls are.
+-- A run of calls, whatever the calls are: a frame that lost the line is one of them.
 --   made-stays-made    a card that was made, and not refused, is made after any list of calls
 --   run-made           so is any made card
 --   run-registers      which has the registers that it had
@@ -21,13 +21,13 @@ use Rattle.card.specs.declared.Storing.the-variants.{Nothing as Unstored, Secto
 use Rattle.command.specs.declared.Change.{Change}
 use Rattle.command.specs.declared.Change.the-variants.{Nothing, Protect, Erase}
 use Rattle.base.specs.Choice.{pick}
-use Rattle.record.specs.Making.{madeOf}
-use Rattle.record.specs.Record.{csdProtects}
-use Rattle.record.specs.declared.Card.{Card}
-use Rattle.record.specs.declared.Making.the-variants.{Done}
+use Rattle.card_record.specs.Making.{madeOf}
+use Rattle.card_record.specs.Record.{csdProtects}
+use Rattle.card_record.specs.declared.Card.{Card}
+use Rattle.card_record.specs.declared.Making.the-variants.{Done}
 use Rattle.store.proofs.Erased.{erased-length}
 use Rattle.store.proofs.Sectors.{written-length}
-use Rattle.made.proofs.Registers.{registers-kept}
+use Rattle.made.proofs.Kept.{registers-kept}
 use Rattle.made.proofs.Stays.{make-made, step-made}
 use Rattle.made.specs.Made.{Made}
 use Rattle.made.specs.Run.{World, Input, next, runOf, begun}
@@ -59,14 +59,14 @@ cleared-by-length map (Sector sector) = refl
 cleared-by-length map All = length-replicate (length map) 0
 
 pub memory-length : (card : Card) (call : Call) (input memory map : List ℕ) → length (memoryOf card call input memory map) ≡ length memory
-memory-length card Frame input memory map = erased-by-length card memory map (frameJudged card input (length memory) map .change)
+memory-length card (Frame wins) input memory map = erased-by-length card memory map (frameJudged card wins input (length memory) map .change)
 memory-length card BlockIn input memory map = stored-by-length input memory (blockJudged card input (length memory) map .storing)
 memory-length card BlockOut input memory map = refl
 memory-length card WorkDone input memory map = refl
 memory-length card PowerOn input memory map = refl
 
 pub map-length : (card : Card) (call : Call) (input : List ℕ) (memory : ℕ) (map : List ℕ) → length (mapOf card call input memory map) ≡ length map
-map-length card Frame input memory map = protected-by-length map (frameJudged card input memory map .change)
+map-length card (Frame wins) input memory map = protected-by-length map (frameJudged card wins input memory map .change)
 map-length card BlockIn input memory map = cleared-by-length map (blockJudged card input memory map .storing)
 map-length card BlockOut input memory map = refl
 map-length card WorkDone input memory map = refl
@@ -74,14 +74,14 @@ map-length card PowerOn input memory map = refl
 
 -- ---- runs
 pub run-made : (world : World) (inputs : List Input) → Made (world .card) → Made (runOf world inputs .card)
-unfolding runOf
+unfolding runOf next
 run-made world [] made = made
 run-made world (input ∷ inputs) made =
     run-made (next world input) inputs
     (step-made (world .card) (input .call) (input .bytes) (length (world .memory)) (world .map) (length (input .output)) made)
 
 pub run-registers : (world : World) (inputs : List Input) → runOf world inputs .card .registers ≡ world .card .registers
-unfolding runOf
+unfolding runOf next
 run-registers world [] = refl
 run-registers world (input ∷ inputs) =
     run-registers (next world input) inputs
@@ -89,7 +89,7 @@ run-registers world (input ∷ inputs) =
 
 pub run-lengths : (world : World) (inputs : List Input)
     → (length (runOf world inputs .memory) ≡ length (world .memory)) × (length (runOf world inputs .map) ≡ length (world .map))
-unfolding runOf
+unfolding runOf next
 run-lengths world [] = (refl, refl)
 run-lengths world (input ∷ inputs) =
     let rest = run-lengths (next world input) inputs in (

@@ -3,6 +3,7 @@
 --   step-made       every call keeps a card made, whatever comes in and whatever is lent
 --   command-made    so does every command that reaches a card on the bus, whether it would win the line or not
 --   damage-made     and every damaged frame
+--   whole-groups    an allowed size is one of whole protection groups
 -- Assumes nothing.
 use mathlib.Core.Path.{_≡_, refl, ap, _∙_}
 use mathlib.Core.Bool.{Bool, true, not}
@@ -16,25 +17,25 @@ use Rattle.base.proofs.Cases.{guarded, clash}
 use Rattle.base.specs.Refusals.{by}
 use Rattle.base.specs.declared.Refusal.{Refusal}
 use Rattle.card.proofs.Outcomes.{FrameOutcome, unheard, damaged, commands, frame-outcome, told}
-use Rattle.card.specs.Frame.{frameJudged, spares, sparedTold, frameOf}
+use Rattle.card.specs.Frame.{frameJudged, spares, sparedTold, frameStepped}
 use Rattle.card.specs.Step.{stepOf}
 use Rattle.card.specs.declared.Call.{Call}
 use Rattle.card.specs.declared.Call.the-variants.{Frame, BlockIn, BlockOut, WorkDone, PowerOn}
 use Rattle.card.specs.declared.FrameJudged.{FrameJudged}
 use Rattle.card.specs.declared.Stepped.{Stepped}
-use Rattle.command.specs.Command.{damagedLink, commandOf}
-use Rattle.lock.specs.Passwords.{poweredOf, madeOf as lockMadeOf}
+use Rattle.command.specs.Command.{metBy, damagedLink, commandOf}
+use Rattle.lock.specs.Passwords.{poweredOf, lockMade as lockMadeOf}
 use Rattle.lock.specs.declared.Making.the-variants.{Done as LockDone, Refused as LockRefused}
 use Rattle.lock.specs.declared.Making.{Making as LockMaking}
 use Rattle.lock.specs.declared.Lock.{Lock}
 use Rattle.moves.specs.Rows.{window}
-use Rattle.record.specs.Making.{failedMake, lockedBy, passwordMade, madeOf}
-use Rattle.record.specs.Power.{poweredOn, workedState, worked}
-use Rattle.record.specs.Record.{sizeOf, withLink}
-use Rattle.record.specs.declared.Card.{Card}
-use Rattle.record.specs.declared.Made.{Made as MadeOf}
-use Rattle.record.specs.declared.Making.the-variants.{Done}
-use Rattle.record.specs.declared.Registers.{Registers}
+use Rattle.card_record.specs.Making.{failedMake, lockedBy, passwordMade, madeOf}
+use Rattle.card_record.specs.Power.{poweredOn, workedState, worked}
+use Rattle.card_record.specs.Record.{sizeOf, withLink}
+use Rattle.card_record.specs.declared.Card.{Card}
+use Rattle.card_record.specs.declared.Made.{Made as MadeOf}
+use Rattle.card_record.specs.declared.Making.the-variants.{Done}
+use Rattle.card_record.specs.declared.Registers.{Registers}
 use Rattle.states.specs.declared.State.{State}
 use Rattle.states.specs.declared.State.the-variants.{Idle, Ready, Ident, Stby, Tran, Data, Rcv, Prg, Dis, Ina}
 use Rattle.status.specs.ErrorBits.{errorBit}
@@ -48,7 +49,7 @@ use Rattle.made.proofs.Commands.{link-made}
 use Rattle.made.proofs.Links.{fresh-made, errors-made, damaged-made}
 use Rattle.made.proofs.Locks.{made-made, powered-made}
 use Rattle.made.proofs.Pending.{set-pending}
-use Rattle.made.specs.Made.{Waits, MadeRegisters, MadeLock, Made, metBy}
+use Rattle.made.specs.Made.{Waits, MadeRegisters, MadeLock, Made}
 
 -- ---- commands
 pub command-made : (card : Card) (wins : Bool) (index argument : ℕ) → Made card → Made (withLink card (commandOf (card .link) (metBy card wins) index argument .link))
@@ -69,10 +70,11 @@ damage-made card made =
 
 -- ---- frames
 module _ (card : Card) (made : Made card) where
-  judged-made : (frame : List ℕ) (memory : ℕ) (map : List ℕ) {judged : FrameJudged} → FrameOutcome card frame memory map judged → Made (judged .stepped .card)
-  judged-made frame memory map (unheard n listed) = made
-  judged-made frame memory map damaged = damage-made card made
-  judged-made frame memory map (commands index argument is lent) = command-made card true index argument made
+  judged-made : (wins : Bool) (frame : List ℕ) (memory : ℕ) (map : List ℕ) {judged : FrameJudged} → FrameOutcome card wins frame memory map judged
+      → Made (judged .stepped .card)
+  judged-made wins frame memory map (unheard n listed) = made
+  judged-made wins frame memory map damaged = damage-made card made
+  judged-made wins frame memory map (commands index argument is lent) = command-made card wins index argument made
 
   -- with bit 15, where an erase spared a sector
   spared-made : (stepped : Stepped) → Made (stepped .card) → Made (sparedTold stepped true .card)
@@ -85,12 +87,12 @@ module _ (card : Card) (made : Made card) where
             (set-pending (next .link .errors) (errorBit 15) refl (m .link .errors));
       }
 
-  frame-made : (frame : List ℕ) (memory : ℕ) (map : List ℕ) → Made (frameOf card frame memory map .card)
-  unfolding frameOf
-  frame-made frame memory map =
-      let stepped : Stepped = frameJudged card frame memory map .stepped in
-      let m : Made (stepped .card) = judged-made frame memory map (frame-outcome card frame memory map) in
-      told (λ (s : Stepped). Made (s .card)) stepped (spares card memory map (frameJudged card frame memory map .change)) (spared-made stepped m) m
+  frame-made : (wins : Bool) (frame : List ℕ) (memory : ℕ) (map : List ℕ) → Made (frameStepped card wins frame memory map .card)
+  unfolding frameStepped
+  frame-made wins frame memory map =
+      let stepped : Stepped = frameJudged card wins frame memory map .stepped in
+      let m : Made (stepped .card) = judged-made wins frame memory map (frame-outcome card wins frame memory map) in
+      told (λ (s : Stepped). Made (s .card)) stepped (spares card memory map (frameJudged card wins frame memory map .change)) (spared-made stepped m) m
 
 -- ---- work done and power-on
 worked-waits : (groups length : ℕ) (locked : Bool) (state : State) → Waits groups length locked state → Waits groups length locked (workedState state)
@@ -132,7 +134,7 @@ powered-on-made card made =
 
 -- ---- every call
 pub step-made : (card : Card) (call : Call) (input : List ℕ) (memory : ℕ) (map : List ℕ) (room : ℕ) → Made card → Made (stepOf card call input memory map room .card)
-step-made card Frame input memory map room made = frame-made card made input memory map
+step-made card (Frame wins) input memory map room made = frame-made card made wins input memory map
 step-made card BlockIn input memory map room made = block-in-made card made input memory map
 step-made card BlockOut input memory map room made = block-out-made card made memory map room
 step-made card WorkDone input memory map room made = worked-made card made
@@ -156,7 +158,7 @@ refused-makes : (refusal : Refusal) → Makes (failedMake refusal)
 refused-makes refusal e = clash cc
 
 -- an allowed size is one of whole protection groups
-whole-groups : (memory : ℕ) → sizeAllowed memory ≡ true → sizeOf (memory / 8192) ≡ memory
+pub whole-groups : (memory : ℕ) → sizeAllowed memory ≡ true → sizeOf (memory / 8192) ≡ memory
 whole-groups memory allowed = omega (arith, allowed-size memory allowed .2)
 
 pub make-made : (cid csd : List ℕ) (ocr : ℕ) (password : List ℕ) (memory : ℕ) (map : List ℕ)

@@ -13,20 +13,20 @@ use borrow.Author.Tests.{le-leb}
 use lib.Dec.{eqb}
 use Rattle.base.proofs.Cases.{guarded, never}
 use Rattle.command.specs.Answers.{responseOf, answered}
-use Rattle.command.specs.Command.{askedOf, resetTold, concluded, takenOf, movedBy}
+use Rattle.command.specs.Command.{receivedOf, resetTold, concluded, takenOf, movedBy}
 use Rattle.command.specs.Obey.{dropsTags, passesLock, taggingOf, judgedOf, stateAt, obeyed}
 use Rattle.command.specs.declared.Commanded.{Commanded}
 use Rattle.command.specs.declared.Met.{Met}
 use Rattle.command.specs.declared.Response.the-variants.{R1}
 use Rattle.moves.proofs.Laws.{listed}
 use Rattle.moves.specs.Moves.{legal, moveOf}
-use Rattle.moves.specs.declared.Asked.{Asked}
+use Rattle.moves.specs.declared.Received.{Received}
 use Rattle.moves.specs.declared.Move.{Move}
 use Rattle.moves.specs.declared.Move.the-variants.{Ignored, Silent, Illegal, To}
 use Rattle.moves.specs.declared.Row.{Row}
 use Rattle.moves.specs.declared.Row.the-variants.{SetOrTag}
-use Rattle.record.specs.Record.{sizeOf, lengthRead, longest}
-use Rattle.record.specs.declared.Link.{Link}
+use Rattle.card_record.specs.Record.{sizeOf, lengthRead}
+use Rattle.card_record.specs.declared.Link.{Link}
 use Rattle.states.specs.States.{columnOf}
 use Rattle.states.specs.declared.Column.{Column}
 use Rattle.states.specs.declared.Column.the-variants.{Idle, Ready, Ident, Stby, Tran, Data, Rcv, Prg, Dis, Ina}
@@ -42,6 +42,7 @@ use Rattle.tags.specs.Made.{MadeTags}
 use Rattle.tags.specs.Tagging.{noTags, anyOf}
 use Rattle.tags.specs.declared.Tagging.{Tagging}
 use Rattle.tags.specs.declared.Tags.{Tags}
+use Rattle.wire.specs.Blocks.{longestBlock}
 use Rattle.made.proofs.Faults.{passes, unlocked}
 use Rattle.made.proofs.Links.{errors-made, at-waits, left-pending}
 use Rattle.made.proofs.Pending.{none-pending, set-pending}
@@ -61,8 +62,8 @@ abbrev pub Kept : Meeting → Commanded → Type 0
 Kept c given = Right c (given .link)
 
 -- the command of an index, its tags and its error at the meeting, and the link after it where it has none
-abbrev pub asked : Meeting → ℕ → Asked
-asked c index = askedOf (c .link) (c .met) index (c .argument)
+abbrev pub asked : Meeting → ℕ → Received
+asked c index = receivedOf (c .link) (c .met) index (c .argument)
 
 abbrev pub tagging : Meeting → ℕ → Tagging
 tagging c index = taggingOf (c .link) (sizeOf (c .met .groups)) index (c .argument)
@@ -201,7 +202,7 @@ module _ (c : Meeting) where
       (λ l. drops-kept index row column (tagging c index .tags) (tagging c index .error) r1 drops (λ e. right column h l)))
 
   -- ---- links after a command
-  pub anew : (length : ℕ) (state : State) → (1 ≤ length) × (length ≤ longest) → Waits (c .met .groups) length (c .met .locked) state
+  pub anew : (length : ℕ) (state : State) → (1 ≤ length) × (length ≤ longestBlock) → Waits (c .met .groups) length (c .met .locked) state
       → Right c (record { state = state; address = c .link .address; length = length; errors = c .link .errors; tags = noTags })
   anew length state block waits =
       record { address = c .made .address; block = block; tags = tt; tagged = λ e. never e; work = waits; errors = c .made .errors }
@@ -222,4 +223,4 @@ module _ (c : Meeting) where
 
   -- a block length is read as it stands
   pub read-as : lengthRead (c .link .length) ≡ c .link .length
-  read-as = simp (le-leb 1 (c .link .length) (c .made .block .0), le-leb (c .link .length) longest (c .made .block .1))
+  read-as = simp (le-leb 1 (c .link .length) (c .made .block .0), le-leb (c .link .length) longestBlock (c .made .block .1))

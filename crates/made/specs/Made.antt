@@ -7,13 +7,13 @@ use mathlib.Core.List.{List, [], _∷_, _++_}
 use Prim.Native.Nat.{ℕ, _+_, _-_, _%_, _≤_, _<_}
 use lib.Bits.{bitAnd}
 use lib.ListN.{length, take, replicate}
-use Rattle.command.specs.declared.Met.{Met}
+use Rattle.base.specs.Sizes.{sectorSize}
 use Rattle.lock.specs.declared.Lock.{Lock}
 use Rattle.moves.specs.Rows.{window}
-use Rattle.record.specs.Record.{sizeOf, crosses, longest}
-use Rattle.record.specs.declared.Card.{Card}
-use Rattle.record.specs.declared.Link.{Link}
-use Rattle.record.specs.declared.Registers.{Registers}
+use Rattle.card_record.specs.Record.{sizeOf, crosses}
+use Rattle.card_record.specs.declared.Card.{Card}
+use Rattle.card_record.specs.declared.Link.{Link}
+use Rattle.card_record.specs.declared.Registers.{Registers}
 use Rattle.states.specs.declared.Incoming.{Incoming}
 use Rattle.states.specs.declared.Incoming.the-variants.{One as OneIn, Many as ManyIn, LockRequest}
 use Rattle.states.specs.declared.Outgoing.{Outgoing}
@@ -26,6 +26,7 @@ use Rattle.status.specs.declared.Errors.{Errors}
 use Rattle.store.specs.Memory.{sizeAllowed}
 use Rattle.tags.specs.Made.{MadeTags}
 use Rattle.tags.specs.Tagging.{anyOf}
+use Rattle.wire.specs.Blocks.{longestBlock}
 use Rattle.wire.specs.Responses.{registerRight}
 
 -- what making checks of CID, CSD, OCR and size, by the refusals that it gives else
@@ -55,8 +56,8 @@ Sends groups length locked (Protection group) = (locked ≡ false) × (group < g
 
 -- what a card in rcv awaits. "CMD24, 25: length must be 512 .., then in range .., then aligned to 512"; CMD25 "moves on 512", at most to the end
 abbrev pub Awaits : ℕ → ℕ → Bool → Incoming → Type 0
-Awaits groups length locked (OneIn at) = (locked ≡ false) × ((at + 512 ≤ sizeOf groups) × ((at % 512 ≡ 0) × (length ≡ 512)))
-Awaits groups length locked (ManyIn at) = (locked ≡ false) × ((at ≤ sizeOf groups) × ((at % 512 ≡ 0) × (length ≡ 512)))
+Awaits groups length locked (OneIn at) = (locked ≡ false) × ((at + sectorSize ≤ sizeOf groups) × ((at % sectorSize ≡ 0) × (length ≡ sectorSize)))
+Awaits groups length locked (ManyIn at) = (locked ≡ false) × ((at ≤ sizeOf groups) × ((at % sectorSize ≡ 0) × (length ≡ sectorSize)))
 Awaits groups length locked LockRequest = Unit {0}
 
 -- "Data states carry what they wait for"; the other states wait for nothing
@@ -84,7 +85,7 @@ pub record MadeLink (groups : ℕ) (locked : Bool) (link : Link) : Type 0 where
   -- 3: "address taken; address 0: bit 31, stays"
   pub address : 1 ≤ link .address
   -- "CMD16: length 1 to 2,048"
-  pub block : (1 ≤ link .length) × (link .length ≤ longest)
+  pub block : (1 ≤ link .length) × (link .length ≤ longestBlock)
   -- tags lie inside the memory, the start not after the end, sectors in one erase group; they are there in tran alone, on an unlocked card
   pub tags : MadeTags (sizeOf groups) (link .tags)
   pub tagged : anyOf (link .tags) ≡ true → (link .state ≡ Tran) × (locked ≡ false)
@@ -95,7 +96,3 @@ pub record Made (card : Card) : Type 0 where
   pub registers : MadeRegisters (card .registers)
   pub lock : MadeLock (card .lock)
   pub link : MadeLink (card .registers .groups) (card .lock .locked) (card .link)
-
--- what a command meets at a card that would win the line in CMD2, or would not
-abbrev pub metBy : Card → Bool → Met
-metBy card wins = record { ocr = card .registers .ocr; groups = card .registers .groups; locked = card .lock .locked; wins = wins }

@@ -3,10 +3,11 @@
 use mathlib.Core.List.{List, [], _∷_}
 use Prim.Native.Nat.{ℕ}
 use lib.ListN.{length}
-use Rattle.card.specs.Step.{stepOf, memoryOf, mapOf}
+use Rattle.card.specs.Step.{stepOf, memoryOf, mapOf, outputOf}
 use Rattle.card.specs.declared.Call.{Call}
-use Rattle.record.specs.Making.{madeOf}
-use Rattle.record.specs.declared.Card.{Card}
+use Rattle.card.specs.declared.Outcome.{Outcome}
+use Rattle.card_record.specs.Making.{madeOf}
+use Rattle.card_record.specs.declared.Card.{Card}
 
 -- a card with the memory and the map that it is lent
 pub record World : Type 0 where
@@ -20,8 +21,12 @@ pub record Input : Type 0 where
   pub bytes : List ℕ
   pub output : List ℕ
 
--- the world after a call
-abbrev pub next : World → Input → World
+-- a call that is lent no output
+abbrev pub given : Call → List ℕ → Input
+given call bytes = record { call = call; bytes = bytes; output = [] }
+
+-- the world after a call: the next record, and what was lent as the call left it
+unfoldable pub next : World → Input → World
 next world input =
     record {
       card = stepOf (world .card) (input .call) (input .bytes) (length (world .memory)) (world .map) (length (input .output)) .card;
@@ -29,7 +34,15 @@ next world input =
       map = mapOf (world .card) (input .call) (input .bytes) (length (world .memory)) (world .map);
     }
 
--- and after a list of calls, one after the other
+-- what becomes of a call, and the output that it leaves
+abbrev pub outcomeOf : World → Input → Outcome
+outcomeOf world input =
+    stepOf (world .card) (input .call) (input .bytes) (length (world .memory)) (world .map) (length (input .output)) .reply .outcome
+
+abbrev pub outputAfter : World → Input → List ℕ
+outputAfter world input = outputOf (world .card) (input .call) (world .memory) (world .map) (input .output)
+
+-- the world after a list of calls, one after the other
 unfoldable pub runOf : World → List Input → World
 runOf world [] = world
 runOf world (input ∷ inputs) = runOf (next world input) inputs

@@ -8,13 +8,14 @@
 --   mute           not of a program that prints nothing
 -- Assumes nothing.
 use mathlib.Core.Path.{_≡_, refl, sym, ap, _∙_}
+use mathlib.Core.Bool.{true}
 use mathlib.Core.List.{List, [], _∷_}
 use Prim.Native.Nat.{ℕ, _+_, _*_, _/_, _%_}
 use native.Mathlib.Omega.{arith}
 use lib.ListN.{length, getD}
 use Rattle.base.proofs.Cases.{clash}
-use Rattle.base.specs.Refusals.{by}
-use Rattle.card.specs.Frame.{frameJudged, frameOf as cardFrameOf}
+use Rattle.base.specs.Refusals.{refusalOf}
+use Rattle.card.specs.Frame.{frameJudged, frameStepped as cardFrameOf}
 use Rattle.command.specs.Sending.{sentBytes}
 use Rattle.command.specs.Answers.{responseOf, answered}
 use Rattle.command.specs.Arguments.{argumentFault}
@@ -22,16 +23,16 @@ use Rattle.command.specs.Command.{resetTold, concluded, takenOf, commandOf}
 use Rattle.command.specs.Obey.{taggingOf, judgedOf, awaitedBy, obeyed, changeOf}
 use Rattle.crc.specs.Bits.{bits}
 use Rattle.crc.specs.Crc.{divide, remainder, checkSum, crc16}
-use Rattle.dock.specs.Transcript.{transcript}
+use Rattle.busline_records.specs.Transcript.{transcript}
 use Rattle.lock.specs.Passwords.{holding}
 use Rattle.moves.specs.Classes.{classOf}
 use Rattle.moves.specs.Moves.{moveOf}
 use Rattle.moves.specs.Rows.{transferRow, rowOf}
-use Rattle.record.specs.Power.{freshLink}
-use Rattle.record.specs.declared.Card.{Card}
+use Rattle.card_record.specs.Power.{freshLink}
+use Rattle.card_record.specs.declared.Card.{Card}
 use Rattle.status.specs.Status.{wordOf}
 use Rattle.store.specs.Map.{entriesRight}
-use Rattle.wire.specs.Frames.{crc7Of, sealed, sentOf, framingOf, frameOf}
+use Rattle.wire.specs.Frames.{crc7Of, sealed, fieldsOf, framingOf, frameOf}
 use Rattle.wire.specs.Responses.{r1Frame}
 use Rattle.wire.specs.declared.Frame.{Frame}
 use Rattle.wire.specs.declared.Frame.the-variants.{Command, Refused}
@@ -42,13 +43,13 @@ use Rattle.marked.specs.Marked.{cardIn, all, marked}
 
 -- what our card puts on the line for a frame, lent a memory of 8,192 bytes and its map
 abbrev pub ours : Card → List ℕ → List ℕ
-ours card frame = sentBytes (card .registers) (cardFrameOf card frame 8192 (0 ∷ []) .reply .sent)
+ours card frame = sentBytes (card .registers) (cardFrameOf card true frame 8192 (0 ∷ []) .reply .sent)
 
 pub marked-hold : all frameOf ours crc16 transcript marked
-unfolding cardIn holding freshLink cardFrameOf frameJudged entriesRight commandOf takenOf concluded judgedOf taggingOf argumentFault resetTold obeyed awaitedBy changeOf responseOf answered wordOf classOf moveOf rowOf transferRow sentBytes r1Frame sealed frameOf framingOf sentOf crc7Of crc16 checkSum remainder divide bits
+unfolding cardIn holding freshLink cardFrameOf frameJudged entriesRight commandOf takenOf concluded judgedOf taggingOf argumentFault resetTold obeyed awaitedBy changeOf responseOf answered wordOf classOf moveOf rowOf transferRow sentBytes r1Frame sealed frameOf framingOf fieldsOf crc7Of crc16 checkSum remainder divide bits
 marked-hold = (refl, (refl, (refl, (refl, (refl, (refl, (refl, (refl, (eight-lines, tt)))))))))
 
-pub refusing : (reply : Card → List ℕ → List ℕ) (sum : List ℕ → ℕ) (play : List ℕ → List ℕ) (n : ℕ) → all (λ f. Refused (by n)) reply sum play marked → ⊥
+pub refusing : (reply : Card → List ℕ → List ℕ) (sum : List ℕ → ℕ) (play : List ℕ → List ℕ) (n : ℕ) → all (λ f. Refused (refusalOf n)) reply sum play marked → ⊥
 refusing reply sum play n h = let e = h .0 in clash cc
 
 -- the framing with every CRC7 taken for right
@@ -58,7 +59,7 @@ blind (Unframed r) = Refused r
 
 pub accepting : (reply : Card → List ℕ → List ℕ) (sum : List ℕ → ℕ) (play : List ℕ → List ℕ)
     → all (λ f. blind (framingOf f)) reply sum play marked → ⊥
-unfolding framingOf sentOf crc7Of remainder divide bits
+unfolding framingOf fieldsOf crc7Of remainder divide bits
 accepting reply sum play h = let e = h .1 .1 .1 .1 .1 .0 in clash cc
 
 pub one-answer : (read : List ℕ → Frame) (line : List ℕ) (sum : List ℕ → ℕ) (play : List ℕ → List ℕ) → all read (λ c f. line) sum play marked → ⊥

@@ -6,11 +6,11 @@ use mathlib.Core.List.{List, [], _∷_, _++_}
 use Prim.Native.Nat.{ℕ}
 use lib.ListN.{replicate}
 use Rattle.base.specs.Refusals.{by}
-use Rattle.lines.specs.Words.{ascii}
+use Rattle.text.specs.Words.{ascii}
 use Rattle.lock.specs.Passwords.{noPassword}
-use Rattle.record.specs.Power.{freshLink}
-use Rattle.record.specs.Record.{withState}
-use Rattle.record.specs.declared.Card.{Card}
+use Rattle.card_record.specs.Power.{freshLink}
+use Rattle.card_record.specs.Record.{withState}
+use Rattle.card_record.specs.declared.Card.{Card}
 use Rattle.states.specs.declared.State.{State}
 use Rattle.states.specs.declared.State.the-variants.{Stby, Tran}
 use Rattle.wire.specs.declared.Frame.{Frame}

@@ -22,7 +22,7 @@ use Rattle.bus.specs.declared.Bus.{Bus}
 use Rattle.bus.specs.declared.Framed.{Framed}
 use Rattle.crc.proofs.Bits.{length-octets}
 use Rattle.crc.specs.Bits.{bitsOf}
-use Rattle.record.specs.declared.Card.{Card}
+use Rattle.card_record.specs.declared.Card.{Card}
 use Rattle.store.specs.Memory.{contents, partRead}
 use Rattle.wire.specs.Frames.{commandFrame, sealed, indexed}
 use Rattle.measured_bus.specs.Rounds.{cidAt, readyCard, busOf, cmd2, cmd3, heard, afterRounds, answeredIn}

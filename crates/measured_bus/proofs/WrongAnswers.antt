@@ -21,15 +21,15 @@ use Rattle.command.specs.Command.{resetTold, concluded, takenOf, commandOf}
 use Rattle.command.specs.Obey.{taggingOf, judgedOf, awaitedBy, obeyed, changeOf}
 use Rattle.crc.specs.Bits.{bits}
 use Rattle.crc.specs.Crc.{divide, remainder}
-use Rattle.line.specs.Line.{line, contested, wins, together}
+use Rattle.shared_line.specs.Line.{line, contested, wins, together}
 use Rattle.lock.specs.Passwords.{holding}
 use Rattle.moves.specs.Classes.{classOf}
 use Rattle.moves.specs.Moves.{moveOf}
 use Rattle.moves.specs.Rows.{transferRow, rowOf}
-use Rattle.record.specs.Making.{refusedMake}
-use Rattle.record.specs.Power.{freshLink}
+use Rattle.card_record.specs.Making.{refusedMake}
+use Rattle.card_record.specs.Power.{freshLink}
 use Rattle.status.specs.Status.{wordOf}
-use Rattle.wire.specs.Frames.{crc7Of, sealed, commandFrame, sentOf, framingOf}
+use Rattle.wire.specs.Frames.{crc7Of, sealed, commandFrame, fieldsOf, framingOf}
 use Rattle.wire.specs.Responses.{r1Frame, r2Frame}
 use Rattle.measured_bus.specs.Rounds.{cidAt, readyCard, busOf, heard, afterRounds, answeredIn, addressesOf}
 
@@ -52,9 +52,9 @@ abbrev clones : Bus
 clones = busOf (replicate 480 0) 2
 
 clones-counted : answeredIn clones 2 ≡ 2 → ⊥
-unfolding answeredIn afterRounds busOf addedTo emptyBus readyCard cidAt freshLink refusedMake holding commandFrame sealed crc7Of remainder divide bits busFrame framingOf sentOf commandFor withCards lineOf cidLine andLine frameFrom anyReady longestOf sentBytes r1Frame r2Frame cardAfter commandAt commandOf takenOf concluded judgedOf taggingOf argumentFault resetTold obeyed awaitedBy changeOf responseOf answered wordOf classOf moveOf rowOf transferRow line contested wins together padded
+unfolding answeredIn afterRounds busOf addedTo emptyBus readyCard cidAt freshLink refusedMake holding commandFrame sealed crc7Of remainder divide bits busFrame framingOf fieldsOf commandFor withCards lineOf cidLine andLine frameFrom anyReady longestOf sentBytes r1Frame r2Frame cardAfter commandAt commandOf takenOf concluded judgedOf taggingOf argumentFault resetTold obeyed awaitedBy changeOf responseOf answered wordOf classOf moveOf rowOf transferRow line contested wins together padded
 clones-counted e = omega arith
 
 clones-apart : getD (addressesOf (afterRounds clones 2)) 1 0 ≡ 2 → ⊥
-unfolding afterRounds busOf addedTo emptyBus readyCard cidAt freshLink refusedMake holding commandFrame sealed crc7Of remainder divide bits busFrame framingOf sentOf commandFor withCards cardAfter commandAt commandOf takenOf concluded judgedOf taggingOf argumentFault obeyed awaitedBy responseOf answered classOf moveOf rowOf line contested wins together
+unfolding afterRounds busOf addedTo emptyBus readyCard cidAt freshLink refusedMake holding commandFrame sealed crc7Of remainder divide bits busFrame framingOf fieldsOf commandFor withCards cardAfter commandAt commandOf takenOf concluded judgedOf taggingOf argumentFault obeyed awaitedBy responseOf answered classOf moveOf rowOf line contested wins together
 clones-apart e = omega arith

@@ -8,9 +8,9 @@ use Rattle.bus.specs.declared.Bus.{Bus}
 use Rattle.bus.specs.declared.Shown.{Shown}
 use Rattle.bus.specs.declared.Shown.the-variants.{Line, Silent, Refused}
 use Rattle.lock.specs.Passwords.{noPassword}
-use Rattle.record.specs.Power.{freshLink}
-use Rattle.record.specs.Record.{withState}
-use Rattle.record.specs.declared.Card.{Card}
+use Rattle.card_record.specs.Power.{freshLink}
+use Rattle.card_record.specs.Record.{withState}
+use Rattle.card_record.specs.declared.Card.{Card}
 use Rattle.states.specs.declared.State.the-variants.{Ready}
 use Rattle.wire.specs.Frames.{commandFrame}
 use Rattle.measured_bus.specs.declared.Played.{Played}

@@ -5,9 +5,9 @@
 // Offers: `measured_rounds`.
 use bus::Bus;
 use bus::Shown;
-use record::Card;
-use record::Link;
-use record::Registers;
+use card_record::Card;
+use card_record::Link;
+use card_record::Registers;
 use states::State;
 ghost use mathlib.Core.Path.{_≡_};
 ghost use Prim.Native.Nat.{_≤_};
@@ -32,7 +32,7 @@ fn ready_card(cid: [u8; 16]) -> Card
     ensures { λ r. ⌜ r ≡ readyCard cid ⌝ }
 {
     let csd = [0, 0, 0, 0, 0, 0, 0, 0, 0, 0, 0, 0, 0, 0, 0, 1];
-    let link = record::fresh();
+    let link = card_record::fresh();
     Card {
         registers: Registers {
             cid,

@@ -14,7 +14,7 @@ use lib.Dec.{T, eqb, ltb}
 use Rattle.base.proofs.Cases.{picked}
 use Rattle.base.proofs.Span.{below}
 use Rattle.base.specs.Choice.{pick}
-use Rattle.states.specs.States.{numberOf}
+use Rattle.states.specs.States.{columnNumber}
 use Rattle.states.specs.declared.Column.{Column}
 use Rattle.states.specs.declared.Column.the-variants.{Tran, Data, Rcv, Prg, Ina}
 use Rattle.moves.proofs.Among.{each}
@@ -24,7 +24,7 @@ use Rattle.moves.specs.Classes.{classOf, classNumber}
 use Rattle.moves.specs.Indices.{among}
 use Rattle.moves.specs.Moves.{rowNumber, inState, inRow, legal, moveOf}
 use Rattle.moves.specs.Rows.{window, opCondRow, cidRow, transferRow, rowOf}
-use Rattle.moves.specs.declared.Asked.{Asked}
+use Rattle.moves.specs.declared.Received.{Received}
 use Rattle.moves.specs.declared.Class.{Class}
 use Rattle.moves.specs.declared.Class.the-variants as class
 use Rattle.moves.specs.declared.Move.{Move}
@@ -36,7 +36,7 @@ use Rattle.moves.specs.declared.Row.the-variants.{OpCondAsked, OpCondSha
 abbrev pub pairIn : Column → Column → List (Column × Column) → Bool
 pairIn from there [] = false
 pairIn from there (pair ∷ pairs) =
-    pick (eqb (numberOf from) (numberOf (pair .0))) (pick (eqb (numberOf there) (numberOf (pair .1))) true (pairIn from there pairs))
+    pick (eqb (columnNumber from) (columnNumber (pair .0))) (pick (eqb (columnNumber there) (columnNumber (pair .1))) true (pairIn from there pairs))
     (pairIn from there pairs)
 
 abbrev lawful : Move → Column → List (Column × Column) → Bool
@@ -103,7 +103,7 @@ cid-identifies : (wins : Bool) → Identifies (cidRow wins)
 cid-identifies wins = picked Identifies wins (λ t. refl) (λ t. refl)
 
 module _ (argument address ocr : ℕ) (wins : Bool) where
-  abbrev at : ℕ → Asked
+  abbrev at : ℕ → Received
   at i = record { index = i; argument = argument; address = address; ocr = ocr; wins = wins }
 
   identifies : (i : ℕ) → among i (1 ∷ 2 ∷ 3 ∷ 4 ∷ []) ≡ true → Identifies (rowOf (at i))
@@ -119,11 +119,11 @@ module _ (argument address ocr : ℕ) (wins : Bool) where
   unfolding classOf rowOf transferRow
   lasts i h = below last 256 tt i h
 
-pub never-illegal : (asked : Asked) (column : Column) → among (asked .index) (1 ∷ 2 ∷ 3 ∷ 4 ∷ []) ≡ true → moveOf (rowOf asked) column ≡ Illegal → ⊥
+pub never-illegal : (asked : Received) (column : Column) → among (asked .index) (1 ∷ 2 ∷ 3 ∷ 4 ∷ []) ≡ true → moveOf (rowOf asked) column ≡ Illegal → ⊥
 never-illegal asked column h =
     row-never-illegal (rowOf asked) column (identifies (asked .argument) (asked .address) (asked .ocr) (asked .wins) (asked .index) h)
 
-pub unsupported : (asked : Asked) → asked .index < 256 → classOf (asked .index) ≡ class.Unsupported → rowOf asked ≡ Unsupported
+pub unsupported : (asked : Received) → asked .index < 256 → classOf (asked .index) ≡ class.Unsupported → rowOf asked ≡ Unsupported
 unsupported asked h e =
     told rowsNumbered (rowOf asked) Unsupported
     (subst (λ (c : Class). T (pick (eqb (classNumber c) (classNumber class.Unsupported)) (eqb (rowNumber (rowOf asked)) (rowNumber Unsupported)) true)) e

@@ -13,7 +13,7 @@ use native.Mathlib.Omega.{arith}
 use lib.Dec.{T}
 use lib.ListN.{getD}
 use Rattle.base.proofs.Table.{every, at}
-use Rattle.states.specs.States.{numberOf}
+use Rattle.states.specs.States.{columnNumber}
 use Rattle.states.specs.declared.Column.{Column}
 use Rattle.states.specs.declared.Column.the-variants.{Idle}
 use Rattle.states.proofs.Columns.{columns, columnBy, column-placed}
@@ -61,7 +61,7 @@ abbrev pub moveNumber : Move → ℕ
 moveNumber Ignored = 0
 moveNumber Silent = 1
 moveNumber Illegal = 2
-moveNumber (To column) = suc (suc (suc (numberOf column)))
+moveNumber (To column) = suc (suc (suc (columnNumber column)))
 
 abbrev moveBy : ℕ → Move
 moveBy zero = Ignored
@@ -113,5 +113,5 @@ module _ (f : Row → Column → Bool) where
       (at (λ (k : ℕ) (x : Column). f row x) Idle columns
       (subst (λ (x : Row). T (inEvery x)) (row-placed row .1)
       (at (λ (k : ℕ) (x : Row). inEvery x) GoIdleState rows t (rowNumber row) (row-placed row .0)))
-      (numberOf column)
+      (columnNumber column)
       (column-placed column .0))

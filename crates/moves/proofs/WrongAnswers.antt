@@ -1,10 +1,11 @@
 -- Wrong answers that the promises rule out, each refuted at a sample that antt computes: a call's answer is the definition, so a call
--- that gave the wrong answer would make the two equal. (Others are tried as must-fail edits; docs/PROMISES.md lists both.)
+-- that gave the wrong answer would make the two equal. (docs/PROMISES.md lists them. A wrong entry of the code's table fails `table-is-rule`, the test of all its entries.)
 -- Of the class of an index:
 --   untag-has-a-class        CMD34, between two erase commands, taken for one
 --   stream-has-a-class       CMD11, a stream read, taken for a basic command
 -- Of the table of moves:
 --   stop-in-dis              CMD12 takes dis to tran
+--   stop-illegal-in-dis      CMD12 is marked illegal in dis
 --   illegal-in-stby          a command with no legal move in stby is marked illegal
 --   deselect-in-rcv          CMD7 for another card in rcv is marked illegal
 --   address-in-ready         CMD3 is legal in ready
@@ -24,13 +25,13 @@ use Rattle.states.specs.declared.Column.the-variants.{Idle, Ready, Stby, Tran, 
 use Rattle.moves.specs.Classes.{classOf}
 use Rattle.moves.specs.Moves.{moveOf}
 use Rattle.moves.specs.Rows.{rowOf}
-use Rattle.moves.specs.declared.Asked.{Asked}
+use Rattle.moves.specs.declared.Received.{Received}
 use Rattle.moves.specs.declared.Class.the-variants.{Basic, Erase}
 use Rattle.moves.specs.declared.Move.the-variants.{Illegal, To}
 use Rattle.moves.specs.declared.Row.the-variants.{GoIdleState, OpCondShared, OpCondApart, SetRelativeAddr, SelectCard, DeselectCard, StopTransmission, SendStatus, Read}
 
 -- a command at a card of address 1, whose OCR has bit 31 and bits 23..15 set
-abbrev sent : ℕ → ℕ → Asked
+abbrev sent : ℕ → ℕ → Received
 sent index argument = record { index = index; argument = argument; address = 1; ocr = 0x80FF8000; wins = true }
 
 untag-has-a-class : classOf 34 ≡ Erase → ⊥
@@ -44,6 +45,10 @@ stream-has-a-class e = clash cc
 stop-in-dis : moveOf StopTransmission Dis ≡ To Tran → ⊥
 unfolding moveOf
 stop-in-dis e = clash cc
+
+stop-illegal-in-dis : moveOf StopTransmission Dis ≡ Illegal → ⊥
+unfolding moveOf
+stop-illegal-in-dis e = clash cc
 
 illegal-in-stby : moveOf Read Stby ≡ Illegal → ⊥
 unfolding moveOf

@@ -6,7 +6,7 @@ use mathlib.Core.List.{List, [], _∷_, map}
 use Prim.Native.Nat.{ℕ}
 use lib.Dec.{eqb}
 use Rattle.base.specs.Choice.{pick}
-use Rattle.states.specs.States.{numberOf}
+use Rattle.states.specs.States.{columnNumber}
 use Rattle.states.specs.declared.Column.{Column}
 use Rattle.states.specs.declared.Column.the-variants.{Idle, Ready, Ident, Stby, Tran, Data, Rcv, Prg, Dis, Ina}
 use Rattle.moves.specs.Indices.{among}
@@ -40,7 +40,7 @@ rowNumber Unsupported = 19
 
 -- a state, or a row, is one of those listed
 abbrev pub inState : Column → List Column → Bool
-inState column columns = among (numberOf column) (map numberOf columns)
+inState column columns = among (columnNumber column) (map columnNumber columns)
 
 abbrev pub inRow : Row → List Row → Bool
 inRow row rows = among (rowNumber row) (map rowNumber rows)
@@ -83,7 +83,7 @@ legal Unsupported = []
 -- where the legal moves lead from a state, or else a mark
 abbrev pub leads : List (Column × Column) → Column → Move → Move
 leads [] column mark = mark
-leads (pair ∷ pairs) column mark = pick (eqb (numberOf column) (numberOf (pair .0))) (To (pair .1)) (leads pairs column mark)
+leads (pair ∷ pairs) column mark = pick (eqb (columnNumber column) (columnNumber (pair .0))) (To (pair .1)) (leads pairs column mark)
 
 -- check 3: "CMD9, 10, 13, 15 for another address .. CMD4 always; CMD1, 2, 3 outside their state", and a loser of CMD2
 abbrev pub unjudged : List Row

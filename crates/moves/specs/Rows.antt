@@ -7,12 +7,12 @@ use lib.Bits.{bitAnd}
 use lib.Dec.{eqb, ltb}
 use Rattle.base.specs.Choice.{pick}
 use Rattle.moves.specs.Indices.{among}
-use Rattle.moves.specs.declared.Asked.{Asked}
+use Rattle.moves.specs.declared.Received.{Received}
 use Rattle.moves.specs.declared.Row.{Row}
 use Rattle.moves.specs.declared.Row.the-variants.{GoIdleState, OpCondAsked, OpCondShared, OpCondApart, AllSendCidWon, AllSendCidLost, SetRelativeAddr, SetDsr, SelectCard, DeselectCard, SendRegister, StopTransmission, SendStatus, GoInactiveState, SetOrTag, Read, Write, Program, OtherAddress, Unsupported}
 
 -- own: "argument bits 31..16" are the card's address
-abbrev pub own : Asked → Bool
+abbrev pub own : Received → Bool
 own asked = eqb (asked .argument / 65536) (asked .address)
 
 -- "Window means argument bits 23..0", and those of the OCR that it is held against
@@ -44,7 +44,7 @@ transferRow index =
     (pick (among index (28 ∷ 29 ∷ 38 ∷ [])) Program Unsupported)))
 
 -- the column from the top, with CMD0 and CMD4 in their places
-unfoldable pub rowOf : Asked → Row
+unfoldable pub rowOf : Received → Row
 rowOf asked =
     pick (among (asked .index) (0 ∷ [])) GoIdleState
     (pick (among (asked .index) (1 ∷ [])) (opCondRow (window (asked .argument)) (window (asked .ocr)))

@@ -3,7 +3,7 @@
 use mathlib.Core.Path.{_≡_}
 use mathlib.Core.List.{List, []}
 use lib.ListN.{getD}
-use Rattle.states.specs.States.{numberOf}
+use Rattle.states.specs.States.{columnNumber}
 use Rattle.states.specs.declared.Column.{Column}
 use Rattle.states.specs.declared.Column.the-variants.{Idle, Ready, Ident, Stby, Tran, Data, Rcv, Prg, Dis, Ina}
 use Rattle.moves.specs.Moves.{rowNumber, moveOf}
@@ -30,7 +30,7 @@ meantBy entry.Illegal = Illegal
 
 -- the entry of a row in a state: a line for each row, against the ten states
 abbrev pub entryOf : List (List Entry) → Row → Column → Entry
-entryOf table row column = getD (getD table (rowNumber row) []) (numberOf column) entry.Idle
+entryOf table row column = getD (getD table (rowNumber row) []) (columnNumber column) entry.Idle
 
 unfoldable pub Ruled : List (List Entry) → Type 0
 Ruled table = (row : Row) (column : Column) → meantBy (entryOf table row column) ≡ moveOf row column

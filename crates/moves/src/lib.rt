@@ -1,7 +1,7 @@
 // How a command moves a card (document 01, "How a card takes a frame"): the class of a command by
 // its index, the row of the table of moves that a command falls in, and the table itself.
 //
-// Offers: `Class`, `class_of`; `Asked`, `Row`, `row_of`; `Move`, `next`.
+// Offers: `Class`, `class_of`; `Received`, `Row`, `row_of`; `Move`, `next`.
 mod table;
 
 use states::Column;
@@ -76,7 +76,7 @@ pub enum Move {
 
 // A command as it meets a card: its index and argument, the card's address and OCR, and whether the
 // card would win the line in CMD2.
-pub struct Asked {
+pub struct Received {
     pub index: u8,
     pub argument: u32,
     pub address: u16,
@@ -191,13 +191,13 @@ fn all_send_cid(wins: bool) -> Row
 }
 
 // Whether a command names the card's address.
-fn owned(asked: Asked) -> bool
+fn owned(asked: Received) -> bool
     ensures { λ r. ⌜ r ≡ own asked ⌝ }
 {
     asked.argument / 65536 == asked.address as u32
 }
 
-fn select(asked: Asked) -> Row
+fn select(asked: Received) -> Row
     ensures { λ r. ⌜ r ≡ selectRow (own asked) ⌝ }
 {
     if owned(asked) {
@@ -207,7 +207,7 @@ fn select(asked: Asked) -> Row
 }
 
 // A row that is only for the card whose address the command names.
-fn for_card(asked: Asked, row: Row) -> Row
+fn for_card(asked: Received, row: Row) -> Row
     ensures { λ r. ⌜ r ≡ forCard (own asked) row ⌝ }
 {
     if owned(asked) {
@@ -230,7 +230,7 @@ fn transfer_row(index: u8) -> Row
 }
 
 // The row that a command falls in at a card.
-pub fn row_of(asked: Asked) -> Row
+pub fn row_of(asked: Received) -> Row
     ensures answer { λ r. ⌜ r ≡ rowOf asked ⌝ }
 {
     let index = asked.index;

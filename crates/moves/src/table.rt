@@ -38,7 +38,9 @@ const PRG: Entry = Entry::Prg;
 const DIS: Entry = Entry::Dis;
 
 const INA: Entry = Entry::Ina;
-// Nothing, where the source document has a dash; check 3; check 4 in tran, data, rcv and prg.
+// No move. Ignored: in Inactive, and by check 4 elsewhere than in tran, data, rcv and prg, where it
+// is illegal; silent: by check 3. Source document 001 marks some of these otherwise
+// (docs/DECISIONS.md, "Where the table of moves departs from source 001").
 const IGN: Entry = Entry::Ignored;
 
 const SIL: Entry = Entry::Silent;

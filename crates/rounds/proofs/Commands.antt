@@ -1,12 +1,10 @@
 -- What CMD2 and CMD3 do at one card, whatever its record is.
---   cid-sent         CMD2: a card in Ready that wins goes to Identification and has no tags; every other card is as it was
---   address-taken    CMD3 of an address: a card in Identification is reached; every other card is as it was
---   framed           a frame that the writer gives is read as its index and its argument, undamaged
+--   cid-sent         CMD2 of any argument: a card in Ready that wins goes to Identification and has no tags; every other card is as it was
+--   address-taken    CMD3 with an address, whatever its bits 15..0 are: a card in Identification is reached; every other card is as it was
 -- Assumes nothing.
 use mathlib.Core.Path.{_≡_, refl}
 use mathlib.Core.Bool.{Bool, true, false, _&&_}
-use Prim.Native.Nat.{ℕ, _*_, _/_, _≤_, _<_, _^_}
-use native.Mathlib.Omega.{arith}
+use Prim.Native.Nat.{ℕ, _/_, _≤_}
 use borrow.Author.Tests.{le-leb}
 use lib.Dec.{eqb}
 use Rattle.base.specs.Choice.{pick}
@@ -19,19 +17,14 @@ use Rattle.command.specs.declared.Response.the-variants.{R2}
 use Rattle.moves.specs.Classes.{classOf}
 use Rattle.moves.specs.Moves.{moveOf}
 use Rattle.moves.specs.Rows.{rowOf}
-use Rattle.record.specs.declared.Link.{Link}
-use Rattle.states.specs.States.{columnOf, numberOf}
+use Rattle.card_record.specs.declared.Link.{Link}
+use Rattle.states.specs.States.{columnOf, columnNumber}
 use Rattle.states.specs.declared.State.{State}
 use Rattle.states.specs.declared.State.the-variants.{Idle, Ready, Ident, Stby, Tran, Data, Rcv, Prg, Dis, Ina}
 use Rattle.status.specs.Status.{noErrors}
 use Rattle.status.specs.declared.Errors.{Errors}
 use Rattle.tags.specs.Tagging.{noTags}
 use Rattle.tags.specs.declared.Tags.{Tags}
-use Rattle.wire.proofs.FrameTheorems.{read-after-write}
-use Rattle.wire.specs.Frames.{commandFrame, framingOf, frameOf, checked}
-use Rattle.wire.specs.declared.Frame.the-variants.{Command}
-use Rattle.wire.specs.declared.Framing.{Framing}
-use Rattle.wire.specs.declared.Framing.the-variants.{Framed, Unframed}
 
 -- ---- CMD2
 -- the link of a card that won: which error bits are pending is no matter here, since CMD3 clears them all
@@ -54,7 +47,7 @@ module _ (address length : ℕ) (errors : Errors) (tags : Tags) (ocr groups argu
 
   -- in any other state it is silent
   sent : (locked : Bool) (state : State) → commandOf (linkOf state address length errors tags) (metOf ocr groups locked true) 2 argument .link
-      ≡ pick (eqb (numberOf (columnOf state)) 1) (identified (linkOf state address length errors tags)) (linkOf state address length errors tags)
+      ≡ pick (eqb (columnNumber (columnOf state)) 1) (identified (linkOf state address length errors tags)) (linkOf state address length errors tags)
   unfolding commandOf rowOf moveOf
   sent locked Idle = refl
   sent locked Ready = won locked
@@ -83,7 +76,7 @@ module _ (address length : ℕ) (errors : Errors) (tags : Tags) (ocr groups argu
 
 pub cid-sent : (link : Link) (ocr groups : ℕ) (locked wins : Bool) (argument : ℕ)
     → commandOf link (metOf ocr groups locked wins) 2 argument .link
-    ≡ pick (wins && eqb (numberOf (columnOf (link .state))) 1) (identified link) link
+    ≡ pick (wins && eqb (columnNumber (columnOf (link .state))) 1) (identified link) link
 cid-sent link ocr groups locked true argument =
     sent (link .address) (link .length) (link .errors) (link .tags) ocr groups argument locked (link .state)
 cid-sent link ocr groups locked false argument =
@@ -94,18 +87,15 @@ cid-sent link ocr groups locked false argument =
 abbrev pub stood : ℕ → Link → Link
 stood address link = record { state = Stby; address = address; length = link .length; errors = noErrors; tags = noTags }
 
-module _ (address length : ℕ) (errors : Errors) (tags : Tags) (ocr groups : ℕ) (wins : Bool) (given : ℕ) (some : 1 ≤ given) where
-  whole : given * 65536 / 65536 ≡ given
-  whole = omega arith
-
-  accepted : (locked : Bool) → commandOf (linkOf Ident address length errors tags) (metOf ocr groups locked wins) 3 (given * 65536) .link
+module _ (address length : ℕ) (errors : Errors) (tags : Tags) (ocr groups : ℕ) (wins : Bool) (given argument : ℕ) (some : 1 ≤ given) (high : argument / 65536 ≡ given) where
+  accepted : (locked : Bool) → commandOf (linkOf Ident address length errors tags) (metOf ocr groups locked wins) 3 argument .link
       ≡ stood given (linkOf Ident address length errors tags)
   unfolding commandOf rowOf moveOf takenOf judgedOf taggingOf argumentFault classOf concluded answered responseOf obeyed awaitedBy
-  accepted true = rw (whole, le-leb 1 given some, whole)
-  accepted false = rw (whole, le-leb 1 given some, whole)
+  accepted true = rw (high, le-leb 1 given some, high)
+  accepted false = rw (high, le-leb 1 given some, high)
 
-  taken : (locked : Bool) (state : State) → commandOf (linkOf state address length errors tags) (metOf ocr groups locked wins) 3 (given * 65536) .link
-      ≡ pick (eqb (numberOf (columnOf state)) 2) (stood given (linkOf state address length errors tags)) (linkOf state address length errors tags)
+  taken : (locked : Bool) (state : State) → commandOf (linkOf state address length errors tags) (metOf ocr groups locked wins) 3 argument .link
+      ≡ pick (eqb (columnNumber (columnOf state)) 2) (stood given (linkOf state address length errors tags)) (linkOf state address length errors tags)
   unfolding commandOf rowOf moveOf
   taken locked Idle = refl
   taken locked Ready = refl
@@ -118,18 +108,8 @@ module _ (address length : ℕ) (errors : Errors) (tags : Tags) (ocr groups : �
   taken locked Dis = refl
   taken locked Ina = refl
 
-pub address-taken : (link : Link) (ocr groups : ℕ) (locked wins : Bool) (address : ℕ) → 1 ≤ address
-    → commandOf link (metOf ocr groups locked wins) 3 (address * 65536) .link
-    ≡ pick (eqb (numberOf (columnOf (link .state))) 2) (stood address link) link
-address-taken link ocr groups locked wins address some =
-    taken (link .address) (link .length) (link .errors) (link .tags) ocr groups wins address some locked (link .state)
-
--- ---- frames
-read-right : (framing : Framing) (index argument : ℕ) → checked framing ≡ Command index argument → framing ≡ Framed index argument true
-read-right (Unframed refusal) index argument e = let z : _≡_ {A = ℕ} 0 1 = cc in absurd (omega arith)
-read-right (Framed i a true) index argument e = cc
-read-right (Framed i a false) index argument e = let z : _≡_ {A = ℕ} 0 1 = cc in absurd (omega arith)
-
-pub framed : (index argument : ℕ) → index < 64 → argument < 2 ^ 32 → framingOf (commandFrame index argument) ≡ Framed index argument true
-unfolding frameOf
-framed index argument small fits = read-right (framingOf (commandFrame index argument)) index argument (read-after-write index argument small fits)
+pub address-taken : (link : Link) (ocr groups : ℕ) (locked wins : Bool) (address argument : ℕ) → 1 ≤ address → argument / 65536 ≡ address
+    → commandOf link (metOf ocr groups locked wins) 3 argument .link
+    ≡ pick (eqb (columnNumber (columnOf (link .state))) 2) (stood address link) link
+address-taken link ocr groups locked wins address argument some high =
+    taken (link .address) (link .length) (link .errors) (link .tags) ocr groups wins address argument some high locked (link .state)

@@ -1,5 +1,5 @@
 -- Demand 3 holds of our bus.
---   demand3     for every bus of 1 to 30 cards of any records, none in Identification, and any list of addresses
+--   demand3     for every bus of 1 to 30 cards of any records, none in Identification, and any list of undamaged rounds
 -- Assumes nothing.
 use mathlib.Core.Path.{_≡_, refl, sym, ap, _∙_, subst}
 use mathlib.Core.Bool.{true, false}
@@ -16,18 +16,18 @@ use Rattle.bus.specs.declared.Framed.{Framed as Answered}
 use Rattle.bus.specs.declared.Shown.the-variants.{Line, Silent}
 use Rattle.crc.proofs.Bits.{length-octets}
 use Rattle.crc.specs.Bits.{bitsOf}
-use Rattle.record.specs.Making.{refusedMake}
-use Rattle.record.specs.declared.Card.{Card}
+use Rattle.card_record.specs.Making.{refusedMake}
+use Rattle.card_record.specs.declared.Card.{Card}
 use Rattle.rounds.proofs.Distinct.{distinct-ascending, distinct-from, rank-get, get-rank, rank-lt}
 use Rattle.rounds.proofs.ManyRounds.{rounds-are, good-after, ids-after}
-use Rattle.rounds.proofs.OnTheBus.{Filled, cards-length, cid-frame, after, usable-take, before-is, before-cards, before-filled, before-rest}
+use Rattle.rounds.proofs.OnTheBus.{Filled, cards-length, cid-frame, after, before-is, before-cards, before-filled, before-rest}
 use Rattle.rounds.proofs.OneRound.{Good, good, good-card, cid-back, among, shows-first, shows-none}
 use Rattle.rounds.proofs.Reach.{map-on, final, reach-now, reach-not, reach-yet, ready-from}
-use Rattle.rounds.specs.Demand3.{before, answer, cardAt, identifier, cidOf, readyOf, identifiers, nth, reached, Holds, CidBytes, WellFormed, isIdent, NoneIdentified, Usable, Rounds, Demand3}
+use Rattle.rounds.specs.Demand3.{Round, AllUndamaged, Undamaged, roundAt, addressAt, before, answer, cardAt, identifier, cidOf, readyIdentifiers, identifiers, nth, reached, Holds, CidBytes, WellFormed, isIdent, NoneIdentified, Rounds, Demand3}
 use Rattle.rounds.specs.Distinct.{distinct, rank, Ascending}
 
 -- ---- places of a list
-getD-map : (f : Card → Card) (l : List Card) (i : ℕ) (d : Card) → i < length l → getD (map f l) i d ≡ f (getD l i d)
+pub getD-map : (f : Card → Card) (l : List Card) (i : ℕ) (d : Card) → i < length l → getD (map f l) i d ≡ f (getD l i d)
 getD-map f [] i d h = absurd (omega arith)
 getD-map f (c ∷ l) zero d h = refl
 getD-map f (c ∷ l) (suc i) d h = getD-map f l i d (omega arith)
@@ -42,6 +42,11 @@ place-of [] card d m = absurd (List·Memᴰ·not-nil m)
 place-of (c ∷ l) card d (List·Memᴰ·head e) = (0, (omega arith, sym e))
 place-of (c ∷ l) card d (List·Memᴰ·tail m) = let w = place-of l card d m in (suc (w .0), (omega (arith, w .1 .0), w .1 .1))
 
+undamaged-at : (rounds : List Round) → AllUndamaged rounds → (k : ℕ) → k < length rounds → Undamaged (roundAt rounds k)
+undamaged-at [] u k h = absurd (omega arith)
+undamaged-at (r ∷ rounds) u zero h = u .0
+undamaged-at (r ∷ rounds) u (suc k) h = undamaged-at rounds (u .1) k (omega arith)
+
 -- ---- what is shown
 length-cid : (number : ℕ) → length (cidOf number) ≡ 16
 unfolding cidOf
@@ -54,7 +59,7 @@ padded-17 : (line : List ℕ) → length line ≡ 17 → padded line ≡ line
 unfolding padded
 padded-17 line e = ap (λ (n : ℕ). line ++ replicate (17 - n) 0) e ∙ append-nil line
 
-module _ (bus : Bus) (addresses : List ℕ) (formed : WellFormed bus) (some : 1 ≤ countOf bus) (none : NoneIdentified bus) (u : Usable addresses) where
+module _ (bus : Bus) (rounds : List Round) (formed : WellFormed bus) (some : 1 ≤ countOf bus) (none : NoneIdentified bus) (u : AllUndamaged rounds) where
   abbrev cards : List Card
   cards = cardsOf bus
 
@@ -84,77 +89,77 @@ module _ (bus : Bus) (addresses : List ℕ) (formed : WellFormed bus) (some : 1 
   held place h = let e = count in in-place cards place refusedMake (omega arith)
 
   asc : Ascending ids
-  asc = distinct-ascending (readyOf cards)
+  asc = distinct-ascending (readyIdentifiers cards)
 
   is-among : (place : ℕ) → place < countOf bus → isReady (cardAt bus place) ≡ true → List·Memᴰ (identifier (cardAt bus place)) ids
   is-among place h p = among cards good-cards (cardAt bus place) (held place h) p
 
   -- ---- after k rounds
   abbrev left : ℕ → List Card
-  left k = after (take k addresses) cards
+  left k = after (take k rounds) cards
 
-  ids-left : (k : ℕ) → k < length addresses → distinct (readyOf (left k)) ≡ drop k ids
+  ids-left : (k : ℕ) → k < length rounds → distinct (readyIdentifiers (left k)) ≡ drop k ids
   ids-left k h =
-      ids-after (take k addresses) cards good-cards (usable-take k addresses u)
-      ∙ ap (λ (n : ℕ). drop n ids) (length-take-le k addresses (omega arith))
+      ids-after (take k rounds) cards good-cards
+      ∙ ap (λ (n : ℕ). drop n ids) (length-take-le k rounds (omega arith))
 
   good-left : (k : ℕ) → Good (left k)
-  good-left k = good-after (take k addresses) cards good-cards (usable-take k addresses u)
+  good-left k = good-after (take k rounds) cards good-cards
 
   card-left : (k place : ℕ) → place < countOf bus
-      → cardAt (before busFrame bus addresses k) place ≡ final (take k addresses) ids (cardAt bus place)
+      → cardAt (before busFrame bus rounds k) place ≡ final (take k rounds) ids (cardAt bus place)
   card-left k place h =
       let e = count in
       ap (λ (l : List Card). getD l place refusedMake)
-      (before-cards bus filled addresses u k ∙ rounds-are (take k addresses) cards good-cards (usable-take k addresses u))
-      ∙ getD-map (final (take k addresses) ids) cards place refusedMake (omega arith)
+      (before-cards bus filled rounds u k ∙ rounds-are (take k rounds) cards good-cards)
+      ∙ getD-map (final (take k rounds) ids) cards place refusedMake (omega arith)
 
   -- a card whose turn it is, and one whose turn it is not
-  now : (k : ℕ) → k < length addresses → (card : Card) → isReady card ≡ true → rank ids (identifier card) ≡ k
-      → final (take (suc k) addresses) ids card ≡ reached (getD addresses k 0) card
+  now : (k : ℕ) → k < length rounds → (card : Card) → isReady card ≡ true → rank ids (identifier card) ≡ k
+      → final (take (suc k) rounds) ids card ≡ reached (addressAt rounds k) card
   unfolding final
-  now k h card p e = rw (p, e) (reach-now addresses k card h)
+  now k h card p e = rw (p, e) (reach-now rounds k card h)
 
   not-now : (k : ℕ) (card : Card) → (isReady card ≡ true → rank ids (identifier card) ≡ k → ⊥)
-      → final (take (suc k) addresses) ids card ≡ final (take k addresses) ids card
+      → final (take (suc k) rounds) ids card ≡ final (take k rounds) ids card
   unfolding final
-  not-now k card n = cases (isReady card) (λ p. rw p (reach-not addresses k (rank ids (identifier card)) card (n p))) (λ p. rw p)
+  not-now k card n = cases (isReady card) (λ p. rw p (reach-not rounds k (rank ids (identifier card)) card (n p))) (λ p. rw p)
 
-  not-yet : (k : ℕ) (card : Card) → isReady card ≡ true → rank ids (identifier card) ≡ k → final (take k addresses) ids card ≡ card
+  not-yet : (k : ℕ) (card : Card) → isReady card ≡ true → rank ids (identifier card) ≡ k → final (take k rounds) ids card ≡ card
   unfolding final
-  not-yet k card p e = rw (p, e) (reach-yet addresses k card)
+  not-yet k card p e = rw (p, e) (reach-yet rounds k card)
 
   -- ---- what CMD2 is answered
-  answer-is : (k : ℕ) (line : List ℕ) → cidLine (left k) ≡ line
-      → (answer busFrame bus addresses k .shown ≡ shownOf line) × (answer busFrame bus addresses k .line ≡ padded line)
-  answer-is k line e =
-      let now = before busFrame bus addresses k in
-      let is = cid-frame now (before-filled bus filled addresses u k .1) in
-      let shows : cidLine (cardsOf now) ≡ line = ap cidLine (before-cards bus filled addresses u k) ∙ e in
+  answer-is : (k : ℕ) → k < length rounds → (line : List ℕ) → cidLine (left k) ≡ line
+      → (answer busFrame bus rounds k .shown ≡ shownOf line) × (answer busFrame bus rounds k .line ≡ padded line)
+  answer-is k h line e =
+      let now = before busFrame bus rounds k in
+      let is = cid-frame now (before-filled bus filled rounds u k .1) (roundAt rounds k .cmd2) (undamaged-at rounds u k h .cmd2) in
+      let shows : cidLine (cardsOf now) ≡ line = ap cidLine (before-cards bus filled rounds u k) ∙ e in
       (ap (λ (r : Answered). r .shown) is ∙ ap shownOf shows, ap (λ (r : Answered). r .line) is ∙ ap padded shows)
 
-  shown-at : (k : ℕ) → k < length addresses → k < length ids
-      → (answer busFrame bus addresses k .shown ≡ Line 17) × (answer busFrame bus addresses k .line ≡ 0x3F ∷ cidOf (nth bus k))
+  shown-at : (k : ℕ) → k < length rounds → k < length ids
+      → (answer busFrame bus rounds k .shown ≡ Line 17) × (answer busFrame bus rounds k .line ≡ 0x3F ∷ cidOf (nth bus k))
   shown-at k h b =
       let e = shows-first (left k) (good-left k) (nth bus k) (drop (suc k) ids) (ids-left k h ∙ drop-cons ids k 0 b) in
-      let r = answer-is k (0x3F ∷ cidOf (nth bus k)) e in
+      let r = answer-is k h (0x3F ∷ cidOf (nth bus k)) e in
       let n = length-cid (nth bus k) in
       (r .0 ∙ shown-17 0x3F (cidOf (nth bus k)) n, r .1 ∙ padded-17 (0x3F ∷ cidOf (nth bus k)) (ap suc n))
 
-  silent-at : (k : ℕ) → k < length addresses → length ids ≤ k → answer busFrame bus addresses k .shown ≡ Silent
-  silent-at k h b = answer-is k [] (shows-none (left k) (good-left k) (ids-left k h ∙ drop-of-length-le ids b)) .0
+  silent-at : (k : ℕ) → k < length rounds → length ids ≤ k → answer busFrame bus rounds k .shown ≡ Silent
+  silent-at k h b = answer-is k h [] (shows-none (left k) (good-left k) (ids-left k h ∙ drop-of-length-le ids b)) .0
 
-  same-after : (k : ℕ) → length ids ≤ k → before busFrame bus addresses (suc k) ≡ before busFrame bus addresses k
+  same-after : (k : ℕ) → length ids ≤ k → before busFrame bus rounds (suc k) ≡ before busFrame bus rounds k
   same-after k b =
-      before-is bus filled addresses u (suc k)
+      before-is bus filled rounds u (suc k)
       ∙ ap (withCards bus)
-      (rounds-are (take (suc k) addresses) cards good-cards (usable-take (suc k) addresses u)
+      (rounds-are (take (suc k) rounds) cards good-cards
       ∙ map-on _ _ cards
       (λ card m.
       not-now k card
       (λ p e. (let z = rank-lt ids (identifier card) (among cards good-cards card m p) in omega arith)))
-      ∙ sym (rounds-are (take k addresses) cards good-cards (usable-take k addresses u)))
-      ∙ sym (before-is bus filled addresses u k)
+      ∙ sym (rounds-are (take k rounds) cards good-cards))
+      ∙ sym (before-is bus filled rounds u k)
 
   -- ---- who holds what
   holds-rank : (k : ℕ) → k < length ids → (place : ℕ) → Holds bus place (nth bus k) → rank ids (identifier (cardAt bus place)) ≡ k
@@ -169,13 +174,13 @@ module _ (bus : Bus) (addresses : List ℕ) (formed : WellFormed bus) (some : 1 
   each-held number =
       let e = count in (
         λ (m : List·Memᴰ number ids).
-            (let w = ready-from cards number (distinct-from (readyOf cards) number m) in
+            (let w = ready-from cards number (distinct-from (readyIdentifiers cards) number m) in
             let i = place-of cards (w .0) refusedMake (w .1) in
             (i .0, (omega (arith, i .1 .0), (ap isReady (i .1 .1) ∙ w .2, ap identifier (i .1 .1) ∙ w .3)))),
         λ w. subst (λ (z : ℕ). List·Memᴰ z ids) (w .1 .1 .1) (is-among (w .0) (w .1 .0) (w .1 .1 .0)),
       )
 
-  holds : Rounds busFrame bus addresses
+  holds : Rounds busFrame bus rounds
   holds =
       record {
         ascending = asc;
@@ -190,7 +195,7 @@ module _ (bus : Bus) (addresses : List ℕ) (formed : WellFormed bus) (some : 1 
           card-left (suc j) place i ∙ now j h (cardAt bus place) p e,
         );
         last = λ k h b. (silent-at k h b, same-after k b);
-        places = λ k. before-rest bus filled addresses u k;
+        places = λ k. before-rest bus filled rounds u k;
       }
 
 pub demand3 : Demand3 busFrame

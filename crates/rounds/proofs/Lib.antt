@@ -8,6 +8,7 @@ pub mod ManyRounds
 pub mod OnTheBus
 pub mod Reach
 pub mod Repeats
-pub mod Unread
+pub mod Undamaged
+pub mod Units
 pub mod WrongBuses
 pub mod WrongAnswers

@@ -24,8 +24,8 @@ use Rattle.made.proofs.Stays.{command-made, damage-made}
 use Rattle.base.proofs.Cases.{never, guarded}
 use Rattle.made.specs.Made.{Made}
 use Rattle.moves.specs.Indices.{among}
-use Rattle.record.specs.Making.{refusedMake}
-use Rattle.record.specs.declared.Card.{Card}
+use Rattle.card_record.specs.Making.{refusedMake}
+use Rattle.card_record.specs.declared.Card.{Card}
 use Rattle.wire.specs.Frames.{framingOf}
 use Rattle.wire.specs.declared.Framing.{Framing}
 use Rattle.wire.specs.declared.Framing.the-variants.{Framed, Unframed}
@@ -34,7 +34,7 @@ use Rattle.rounds.specs.MadeBus.{MadeBus}
 
 -- ---- lists of cards
 -- the cards of a bus after each is changed, however many places there are
-changed : (f : Card → Card) (n : ℕ) (l : List Card) → take n (map f (take n l) ++ drop (length (map f (take n l))) l) ≡ map f (take n l)
+pub changed : (f : Card → Card) (n : ℕ) (l : List Card) → take n (map f (take n l) ++ drop (length (map f (take n l))) l) ≡ map f (take n l)
 changed f zero l = refl
 changed f (suc n) [] = refl
 changed f (suc n) (c ∷ l) = ap (λ (t : List Card). f c ∷ t) (changed f n l)

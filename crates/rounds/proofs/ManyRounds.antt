@@ -6,16 +6,16 @@
 use mathlib.Core.Path.{_≡_, refl, sym, ap, _∙_, subst}
 use mathlib.Core.Bool.{true}
 use mathlib.Core.List.{List, [], _∷_, map, map-map}
-use Prim.Native.Nat.{ℕ, suc, _≤_}
+use Prim.Native.Nat.{ℕ, suc}
 use lib.ListN.{length, drop}
 use lib.Seq.{drop-nil}
 use Rattle.base.proofs.Cases.{cases}
 use Rattle.bus.specs.Bus.{isReady}
-use Rattle.record.specs.declared.Card.{Card}
+use Rattle.card_record.specs.declared.Card.{Card}
 use Rattle.rounds.proofs.OnTheBus.{after}
 use Rattle.rounds.proofs.OneRound.{Good, keeps, round, round-is}
 use Rattle.rounds.proofs.Reach.{map-on, map-id, one, roundBy, reach, final, ids-next, final-one, none-ready, final-none}
-use Rattle.rounds.specs.Demand3.{readyOf, Usable}
+use Rattle.rounds.specs.Demand3.{Round, readyIdentifiers}
 use Rattle.rounds.specs.Distinct.{distinct}
 
 -- no round, no change
@@ -27,41 +27,41 @@ untouched cards ids =
     still : (card : Card) → isReady card ≡ true → final [] ids card ≡ card
     still card p = rw p
 
-pub rounds-are : (addresses : List ℕ) (cards : List Card) → Good cards → Usable addresses
-    → after addresses cards ≡ map (final addresses (distinct (readyOf cards))) cards
+pub rounds-are : (rounds : List Round) (cards : List Card) → Good cards
+    → after rounds cards ≡ map (final rounds (distinct (readyIdentifiers cards))) cards
 unfolding after
-rounds-are [] cards g u = sym (untouched cards (distinct (readyOf cards)))
-rounds-are (a ∷ addresses) cards g u =
-    ap (after addresses) (round-is cards g a (u .0 .0)) ∙ go (distinct (readyOf cards)) refl (λ next h. rounds-are addresses next h (u .1))
+rounds-are [] cards g = sym (untouched cards (distinct (readyIdentifiers cards)))
+rounds-are (r ∷ rounds) cards g =
+    ap (after rounds) (round-is cards g (r .address)) ∙ go (distinct (readyIdentifiers cards)) refl (rounds-are rounds)
   where
-    go : (ids : List ℕ) → distinct (readyOf cards) ≡ ids
-        → ((next : List Card) → Good next → after addresses next ≡ map (final addresses (distinct (readyOf next))) next)
-        → after addresses (roundBy ids a cards) ≡ map (final (a ∷ addresses) ids) cards
+    go : (ids : List ℕ) → distinct (readyIdentifiers cards) ≡ ids
+        → ((next : List Card) → Good next → after rounds next ≡ map (final rounds (distinct (readyIdentifiers next))) next)
+        → after rounds (roundBy ids (r .address) cards) ≡ map (final (r ∷ rounds) ids) cards
     go [] e rest =
         rest cards g
         ∙ map-on _ _ cards
         (λ card k.
         cases (isReady card) (λ p. absurd (none-ready cards e card k p))
-        (λ p. final-none addresses (distinct (readyOf cards)) card p ∙ sym (final-none (a ∷ addresses) [] card p)))
+        (λ p. final-none rounds (distinct (readyIdentifiers cards)) card p ∙ sym (final-none (r ∷ rounds) [] card p)))
     go (m ∷ ms) e rest =
-        rest (map (one m a) cards) (keeps m a cards g)
-        ∙ ap (λ (ids : List ℕ). map (final addresses ids) (map (one m a) cards)) (ids-next m a ms cards e)
-        ∙ map-map (final addresses ms) (one m a) cards
-        ∙ map-on _ _ cards (λ card k. final-one m a ms addresses cards e card k)
+        rest (map (one m (r .address)) cards) (keeps m (r .address) cards g)
+        ∙ ap (λ (ids : List ℕ). map (final rounds ids) (map (one m (r .address)) cards)) (ids-next m (r .address) ms cards e)
+        ∙ map-map (final rounds ms) (one m (r .address)) cards
+        ∙ map-on _ _ cards (λ card k. final-one m r ms rounds cards e card k)
 
 good-at : (a : ℕ) (cards : List Card) (ids : List ℕ) → Good cards → Good (roundBy ids a cards)
 good-at a cards [] g = g
 good-at a cards (m ∷ ms) g = keeps m a cards g
 
-good-round : (a : ℕ) (cards : List Card) → Good cards → 1 ≤ a → Good (round a cards)
-good-round a cards g some = subst Good (sym (round-is cards g a some)) (good-at a cards (distinct (readyOf cards)) g)
+good-round : (a : ℕ) (cards : List Card) → Good cards → Good (round a cards)
+good-round a cards g = subst Good (sym (round-is cards g a)) (good-at a cards (distinct (readyIdentifiers cards)) g)
 
-pub good-after : (addresses : List ℕ) (cards : List Card) → Good cards → Usable addresses → Good (after addresses cards)
+pub good-after : (rounds : List Round) (cards : List Card) → Good cards → Good (after rounds cards)
 unfolding after
-good-after [] cards g u = g
-good-after (a ∷ addresses) cards g u = good-after addresses (round a cards) (good-round a cards g (u .0 .0)) (u .1)
+good-after [] cards g = g
+good-after (r ∷ rounds) cards g = good-after rounds (round (r .address) cards) (good-round (r .address) cards g)
 
-ids-at : (a : ℕ) (cards : List Card) (ids : List ℕ) → distinct (readyOf cards) ≡ ids → distinct (readyOf (roundBy ids a cards)) ≡ drop 1 ids
+ids-at : (a : ℕ) (cards : List Card) (ids : List ℕ) → distinct (readyIdentifiers cards) ≡ ids → distinct (readyIdentifiers (roundBy ids a cards)) ≡ drop 1 ids
 ids-at a cards [] e = e
 ids-at a cards (m ∷ ms) e = ids-next m a ms cards e
 
@@ -69,12 +69,12 @@ drop-one : (n : ℕ) (l : List ℕ) → drop n (drop 1 l) ≡ drop (suc n) l
 drop-one n [] = drop-nil n
 drop-one n (x ∷ l) = refl
 
-pub ids-after : (addresses : List ℕ) (cards : List Card) → Good cards → Usable addresses
-    → distinct (readyOf (after addresses cards)) ≡ drop (length addresses) (distinct (readyOf cards))
+pub ids-after : (rounds : List Round) (cards : List Card) → Good cards
+    → distinct (readyIdentifiers (after rounds cards)) ≡ drop (length rounds) (distinct (readyIdentifiers cards))
 unfolding after
-ids-after [] cards g u = refl
-ids-after (a ∷ addresses) cards g u =
-    ids-after addresses (round a cards) (good-round a cards g (u .0 .0)) (u .1)
-    ∙ ap (drop (length addresses))
-    (ap (λ (l : List Card). distinct (readyOf l)) (round-is cards g a (u .0 .0)) ∙ ids-at a cards (distinct (readyOf cards)) refl)
-    ∙ drop-one (length addresses) (distinct (readyOf cards))
+ids-after [] cards g = refl
+ids-after (r ∷ rounds) cards g =
+    ids-after rounds (round (r .address) cards) (good-round (r .address) cards g)
+    ∙ ap (drop (length rounds))
+    (ap (λ (l : List Card). distinct (readyIdentifiers l)) (round-is cards g (r .address)) ∙ ids-at (r .address) cards (distinct (readyIdentifiers cards)) refl)
+    ∙ drop-one (length rounds) (distinct (readyIdentifiers cards))

@@ -1,15 +1,15 @@
 -- A round on the bus is a round over its cards.
 --   Filled           a bus of 30 places, one of them taken at least
 --   cards-with, with-with, with-own    a bus with other cards in the places that are taken
---   frame-is         a frame that the writer gives is its command, for all cards
---   cid-frame        CMD2: what it leaves and what it shows
---   round-on, rounds-on    a round, and one round for each address
+--   frame-is         a frame that is read as a command is that command, for all cards
+--   cid-frame        CMD2 of any argument: what it leaves and what it shows
+--   round-on, rounds-on    an undamaged round, and any number of them
 --   before-cards     the cards as a round finds them
 -- Assumes nothing.
 use mathlib.Core.Path.{_≡_, refl, sym, ap, ap₂, _∙_, subst}
 use mathlib.Core.Bool.{Bool}
 use mathlib.Core.List.{List, [], _∷_, _++_}
-use Prim.Native.Nat.{ℕ, zero, suc, _*_, _^_, _≤_, _<_}
+use Prim.Native.Nat.{ℕ, zero, suc, _≤_}
 use native.Mathlib.Omega.{arith}
 use borrow.Author.Tests.{le-leb}
 use lib.ListN.{length, take, drop, length-append, length-drop, length-map, take-append-drop}
@@ -19,12 +19,13 @@ use Rattle.base.specs.Refusals.{by}
 use Rattle.bus.specs.Bus.{countOf, cardsOf, withCards, cidLine, lineOf, shownOf, padded, refusedOn, commandFor, framedOn, busFrame}
 use Rattle.bus.specs.declared.Bus.{Bus}
 use Rattle.bus.specs.declared.Framed.{Framed as Answered}
-use Rattle.record.specs.declared.Card.{Card}
-use Rattle.wire.specs.Frames.{commandFrame}
+use Rattle.card_record.specs.declared.Card.{Card}
+use Rattle.wire.proofs.FrameTheorems.{framing}
+use Rattle.wire.specs.Frames.{framingOf, frameOf}
+use Rattle.wire.specs.declared.Frame.the-variants.{Command}
 use Rattle.wire.specs.declared.Framing.{Framing}
-use Rattle.rounds.proofs.Commands.{framed}
-use Rattle.rounds.proofs.OneRound.{cidRound, addressRound, round}
-use Rattle.rounds.specs.Demand3.{cmd2, cmd3, roundOf, roundsOf, before, Usable}
+use Rattle.rounds.proofs.OneRound.{cidRound, addressRound, round, cid-commands, address-commands}
+use Rattle.rounds.specs.Demand3.{Round, IsCmd2, IsCmd3, Undamaged, AllUndamaged, roundOf, roundsOf, before}
 
 abbrev pub Filled : Bus → Type 0
 Filled bus = (length (bus .cards) ≡ 30) × (1 ≤ countOf bus)
@@ -66,23 +67,30 @@ unfolding withCards
 rest-with bus cards e = drop-at cards (drop (length cards) (bus .cards)) (countOf bus) e ∙ ap (λ (n : ℕ). drop n (bus .cards)) e
 
 -- ---- frames
-pub frame-is : (bus : Bus) → 1 ≤ countOf bus → (index argument : ℕ) → index < 64 → argument < 2 ^ 32
-    → busFrame bus (commandFrame index argument) ≡ commandFor bus index argument
-unfolding busFrame
-frame-is bus some index argument small fits =
-    ap₂ (λ (t : Bool) (framing : Framing). unless t (refusedOn bus (by 13)) (framedOn bus framing)) (le-leb 1 (countOf bus) some)
-    (framed index argument small fits)
+frame-is : (bus : Bus) → 1 ≤ countOf bus → (frame : List ℕ) (index argument : ℕ) → frameOf frame ≡ Command index argument
+    → busFrame bus frame ≡ commandFor bus index argument
+unfolding busFrame frameOf
+frame-is bus some frame index argument read =
+    ap₂ (λ (t : Bool) (g : Framing). unless t (refusedOn bus (by 13)) (framedOn bus g)) (le-leb 1 (countOf bus) some)
+    (framing (framingOf frame) index argument read)
 
 -- CMD2: the bus that it leaves, what is shown, and the line
-pub cid-frame : (bus : Bus) → 1 ≤ countOf bus
-    → busFrame bus cmd2
+pub cid-frame : (bus : Bus) → 1 ≤ countOf bus → (frame : List ℕ) → IsCmd2 frame
+    → busFrame bus frame
     ≡ record { bus = withCards bus (cidRound (cardsOf bus)); shown = shownOf (cidLine (cardsOf bus)); line = padded (cidLine (cardsOf bus)) }
-unfolding commandFor lineOf cidRound
-cid-frame bus some = frame-is bus some 2 0 (omega arith) (omega arith)
+unfolding commandFor lineOf
+cid-frame bus some frame (argument, read) =
+    frame-is bus some frame 2 argument read ∙ ap (λ (l : List Card). answerOf (withCards bus l)) (cid-commands (cardsOf bus) argument)
+  where
+    answerOf : Bus → Answered
+    answerOf after = record { bus = after; shown = shownOf (cidLine (cardsOf bus)); line = padded (cidLine (cardsOf bus)) }
 
-address-frame : (bus : Bus) → 1 ≤ countOf bus → (a : ℕ) → a < 65536 → busFrame bus (cmd3 a) .bus ≡ withCards bus (addressRound a (cardsOf bus))
-unfolding commandFor addressRound
-address-frame bus some a fits = ap (λ (r : Answered). r .bus) (frame-is bus some 3 (a * 65536) (omega arith) (omega arith))
+address-frame : (bus : Bus) → 1 ≤ countOf bus → (a : ℕ) → 1 ≤ a → (frame : List ℕ) → IsCmd3 a frame
+    → busFrame bus frame .bus ≡ withCards bus (addressRound a (cardsOf bus))
+unfolding commandFor
+address-frame bus some a one frame (argument, (read, high)) =
+    ap (λ (r : Answered). r .bus) (frame-is bus some frame 3 argument read)
+    ∙ ap (withCards bus) (address-commands (cardsOf bus) a argument one high)
 
 -- ---- rounds
 length-cid : (cards : List Card) → length (cidRound cards) ≡ length cards
@@ -96,62 +104,64 @@ length-address a cards = simp length-map
 length-round : (a : ℕ) (cards : List Card) → length (round a cards) ≡ length cards
 length-round a cards = length-address a (cidRound cards) ∙ length-cid cards
 
-pub round-on : (bus : Bus) → Filled bus → (a : ℕ) → a < 65536 → roundOf busFrame bus a ≡ withCards bus (round a (cardsOf bus))
-round-on bus f a fits =
+round-on : (bus : Bus) → Filled bus → (r : Round) → Undamaged r → roundOf busFrame bus r ≡ withCards bus (round (r .address) (cardsOf bus))
+round-on bus f r u =
+    let a : ℕ = r .address in
     let cards : List Card = cardsOf bus in
     let e : length (cidRound cards) ≡ countOf bus = length-cid cards ∙ cards-length bus f in
     let mid : Bus = withCards bus (cidRound cards) in
-    ap (λ (r : Answered). busFrame (r .bus) (cmd3 a) .bus) (cid-frame bus (f .1))
-    ∙ address-frame mid (filled-with bus (cidRound cards) f e .1) a fits
+    ap (λ (d : Answered). busFrame (d .bus) (r .cmd3) .bus) (cid-frame bus (f .1) (r .cmd2) (u .cmd2))
+    ∙ address-frame mid (filled-with bus (cidRound cards) f e .1) a (u .address) (r .cmd3) (u .cmd3)
     ∙ ap (λ (l : List Card). withCards mid (addressRound a l)) (cards-with bus (cidRound cards) e)
     ∙ with-with bus (cidRound cards) (round a cards) (sym (length-address a (cidRound cards)))
 
--- the cards after a round for each address
-unfoldable pub after : List ℕ → List Card → List Card
+-- the cards after any number of rounds
+unfoldable pub after : List Round → List Card → List Card
 after [] cards = cards
-after (a ∷ addresses) cards = after addresses (round a cards)
+after (r ∷ rounds) cards = after rounds (round (r .address) cards)
 
-pub length-after : (addresses : List ℕ) (cards : List Card) → length (after addresses cards) ≡ length cards
+pub length-after : (rounds : List Round) (cards : List Card) → length (after rounds cards) ≡ length cards
 unfolding after
 length-after [] cards = refl
-length-after (a ∷ addresses) cards = length-after addresses (round a cards) ∙ length-round a cards
+length-after (r ∷ rounds) cards = length-after rounds (round (r .address) cards) ∙ length-round (r .address) cards
 
-pub rounds-on : (addresses : List ℕ) (bus : Bus) → Filled bus → Usable addresses
-    → roundsOf busFrame bus addresses ≡ withCards bus (after addresses (cardsOf bus))
+pub rounds-on : (rounds : List Round) (bus : Bus) → Filled bus → AllUndamaged rounds
+    → roundsOf busFrame bus rounds ≡ withCards bus (after rounds (cardsOf bus))
 unfolding roundsOf after
 rounds-on [] bus f u = sym (with-own bus f)
-rounds-on (a ∷ addresses) bus f u =
+rounds-on (r ∷ rounds) bus f u =
+    let a : ℕ = r .address in
     let cards : List Card = cardsOf bus in
     let e : length (round a cards) ≡ countOf bus = length-round a cards ∙ cards-length bus f in
     let next : Bus = withCards bus (round a cards) in
-    ap (λ (b : Bus). roundsOf busFrame b addresses) (round-on bus f a (u .0 .1))
-    ∙ rounds-on addresses next (filled-with bus (round a cards) f e) (u .1)
-    ∙ ap (λ (l : List Card). withCards next (after addresses l)) (cards-with bus (round a cards) e)
-    ∙ with-with bus (round a cards) (after addresses (round a cards)) (sym (length-after addresses (round a cards)))
+    ap (λ (b : Bus). roundsOf busFrame b rounds) (round-on bus f r (u .0))
+    ∙ rounds-on rounds next (filled-with bus (round a cards) f e) (u .1)
+    ∙ ap (λ (l : List Card). withCards next (after rounds l)) (cards-with bus (round a cards) e)
+    ∙ with-with bus (round a cards) (after rounds (round a cards)) (sym (length-after rounds (round a cards)))
 
 -- ---- the bus as a round finds it
-pub usable-take : (k : ℕ) (addresses : List ℕ) → Usable addresses → Usable (take k addresses)
-usable-take zero addresses u = tt
-usable-take (suc k) [] u = tt
-usable-take (suc k) (a ∷ addresses) u = (u .0, usable-take k addresses (u .1))
+undamaged-take : (k : ℕ) (rounds : List Round) → AllUndamaged rounds → AllUndamaged (take k rounds)
+undamaged-take zero rounds u = tt
+undamaged-take (suc k) [] u = tt
+undamaged-take (suc k) (r ∷ rounds) u = (u .0, undamaged-take k rounds (u .1))
 
-module _ (bus : Bus) (f : Filled bus) (addresses : List ℕ) (u : Usable addresses) (k : ℕ) where
-  as-many : length (after (take k addresses) (cardsOf bus)) ≡ countOf bus
-  as-many = length-after (take k addresses) (cardsOf bus) ∙ cards-length bus f
+module _ (bus : Bus) (f : Filled bus) (rounds : List Round) (u : AllUndamaged rounds) (k : ℕ) where
+  as-many : length (after (take k rounds) (cardsOf bus)) ≡ countOf bus
+  as-many = length-after (take k rounds) (cardsOf bus) ∙ cards-length bus f
 
-  pub before-is : before busFrame bus addresses k ≡ withCards bus (after (take k addresses) (cardsOf bus))
-  before-is = rounds-on (take k addresses) bus f (usable-take k addresses u)
+  pub before-is : before busFrame bus rounds k ≡ withCards bus (after (take k rounds) (cardsOf bus))
+  before-is = rounds-on (take k rounds) bus f (undamaged-take k rounds u)
 
-  pub before-cards : cardsOf (before busFrame bus addresses k) ≡ after (take k addresses) (cardsOf bus)
-  before-cards = ap cardsOf before-is ∙ cards-with bus (after (take k addresses) (cardsOf bus)) as-many
+  pub before-cards : cardsOf (before busFrame bus rounds k) ≡ after (take k rounds) (cardsOf bus)
+  before-cards = ap cardsOf before-is ∙ cards-with bus (after (take k rounds) (cardsOf bus)) as-many
 
-  pub before-filled : Filled (before busFrame bus addresses k)
-  before-filled = subst Filled (sym before-is) (filled-with bus (after (take k addresses) (cardsOf bus)) f as-many)
+  pub before-filled : Filled (before busFrame bus rounds k)
+  before-filled = subst Filled (sym before-is) (filled-with bus (after (take k rounds) (cardsOf bus)) f as-many)
 
-  pub before-rest : (before busFrame bus addresses k .count ≡ bus .count)
-      × (drop (countOf bus) (before busFrame bus addresses k .cards) ≡ drop (countOf bus) (bus .cards))
+  pub before-rest : (before busFrame bus rounds k .count ≡ bus .count)
+      × (drop (countOf bus) (before busFrame bus rounds k .cards) ≡ drop (countOf bus) (bus .cards))
   unfolding withCards
   before-rest = (
     ap (λ (b : Bus). b .count) before-is,
-    ap (λ (b : Bus). drop (countOf bus) (b .cards)) before-is ∙ rest-with bus (after (take k addresses) (cardsOf bus)) as-many,
+    ap (λ (b : Bus). drop (countOf bus) (b .cards)) before-is ∙ rest-with bus (after (take k rounds) (cardsOf bus)) as-many,
   )

@@ -1,5 +1,6 @@
 -- One round over a list of cards, none of them in Identification.
 --   Good             each card has a CID of 16 bytes and is not in Identification; and `keeps`, that a round keeps it so
+--   cid-commands, address-commands    CMD2 of any argument, and CMD3 with an address and any bits 15..0, for all cards
 --   round-is         a round reaches the cards in Ready that hold the smallest identifier, and no other card changes
 --   line-first       the line shows the bits of the smallest identifier
 --   shows-first      CMD2 shows 3F and the 16 bytes of the smallest identifier; shows-none, nothing where no card is in Ready
@@ -8,7 +9,7 @@
 use mathlib.Core.Path.{_≡_, refl, sym, ap, _∙_, subst}
 use mathlib.Core.Bool.{Bool, true, false, _&&_, false≢true}
 use mathlib.Core.List.{List, [], _∷_, map, List·Memᴰ, List·Memᴰ·head, List·Memᴰ·tail, List·Memᴰ·not-nil, Memᴰ·map, Memᴰ·of-map, map-map}
-use Prim.Native.Nat.{ℕ, suc, _*_, _≤_, _<_}
+use Prim.Native.Nat.{ℕ, suc, _/_, _≤_, _<_}
 use native.Mathlib.Omega.{arith}
 use borrow.Author.Tests.{eqb-true, eq-eqb}
 use lib.Dec.{eqb}
@@ -18,15 +19,15 @@ use Rattle.base.specs.Choice.{pick}
 use Rattle.bus.specs.Bus.{isReady, cidSender, cidBits, winsLine, commandAt, cardAfter, anyReady, cidLine}
 use Rattle.crc.proofs.Bits.{length-bits, bits-below, bitsOf-spelt, octets-bits}
 use Rattle.crc.specs.Bits.{bitsOf, bits, spelt, octets, Below}
-use Rattle.line.proofs.Arbitration.{and-left, and-right, Bitwise, bitwise, winners, line-is-smallest, contested-length, contested-below}
-use Rattle.line.specs.Line.{Sender, contested}
-use Rattle.record.specs.Record.{withLink}
-use Rattle.record.specs.declared.Card.{Card}
-use Rattle.record.specs.declared.Link.{Link}
+use Rattle.shared_line.proofs.Arbitration.{and-left, and-right, Bitwise, bitwise, winners, line-is-smallest, contested-length, contested-below}
+use Rattle.shared_line.specs.Line.{Sender, contested}
+use Rattle.card_record.specs.Record.{withLink}
+use Rattle.card_record.specs.declared.Card.{Card}
+use Rattle.card_record.specs.declared.Link.{Link}
 use Rattle.rounds.proofs.Commands.{identified, stood, cid-sent, address-taken}
 use Rattle.rounds.proofs.Distinct.{distinct-ascending, distinct-has, distinct-from, first-under}
 use Rattle.rounds.proofs.Reach.{map-on, map-id, one, roundBy, ready-member, ready-from}
-use Rattle.rounds.specs.Demand3.{identifier, cidOf, readyOf, reached, CidBytes, isIdent}
+use Rattle.rounds.specs.Demand3.{identifier, cidOf, readyIdentifiers, reached, CidBytes, isIdent}
 use Rattle.rounds.specs.Distinct.{distinct, Ascending}
 
 -- ---- what is asked of the cards
@@ -76,25 +77,43 @@ with-link : (card : Card) (link : Link) (t : Bool) → withLink card (pick t lin
 with-link card link true = refl
 with-link card link false = refl
 
-pub cid-card : (cards : List Card) (card : Card)
-    → cardAfter cards 2 0 card ≡ pick (winsLine cards card && isReady card) (withLink card (identified (card .link))) card
+-- what CMD2 leaves of a card among others, and CMD3 with an address
+abbrev afterCid : List Card → Card → Card
+afterCid cards card = pick (winsLine cards card && isReady card) (withLink card (identified (card .link))) card
+
+abbrev afterAddress : ℕ → Card → Card
+afterAddress a card = pick (isIdent card) (reached a card) card
+
+cid-card : (cards : List Card) (argument : ℕ) (card : Card) → cardAfter cards 2 argument card ≡ afterCid cards card
 unfolding cardAfter commandAt
-cid-card cards card =
-    ap (withLink card) (cid-sent (card .link) (card .registers .ocr) (card .registers .groups) (card .lock .locked) (winsLine cards card) 0)
+cid-card cards argument card =
+    ap (withLink card) (cid-sent (card .link) (card .registers .ocr) (card .registers .groups) (card .lock .locked) (winsLine cards card) argument)
     ∙ with-link card (identified (card .link)) (winsLine cards card && isReady card)
 
-pub address-card : (cards : List Card) (a : ℕ) → 1 ≤ a → (card : Card) → cardAfter cards 3 (a * 65536) card ≡ pick (isIdent card) (reached a card) card
+address-card : (cards : List Card) (a argument : ℕ) → 1 ≤ a → argument / 65536 ≡ a → (card : Card)
+    → cardAfter cards 3 argument card ≡ afterAddress a card
 unfolding cardAfter commandAt
-address-card cards a some card =
-    ap (withLink card) (address-taken (card .link) (card .registers .ocr) (card .registers .groups) (card .lock .locked) (winsLine cards card) a some)
+address-card cards a argument some high card =
+    ap (withLink card)
+    (address-taken (card .link) (card .registers .ocr) (card .registers .groups) (card .lock .locked) (winsLine cards card) a argument some high)
     ∙ with-link card (stood a (card .link)) (isIdent card)
 
 -- a round over a list of cards
 unfoldable pub cidRound : List Card → List Card
-cidRound cards = map (cardAfter cards 2 0) cards
+cidRound cards = map (afterCid cards) cards
 
 unfoldable pub addressRound : ℕ → List Card → List Card
-addressRound a cards = map (cardAfter cards 3 (a * 65536)) cards
+addressRound a cards = map (afterAddress a) cards
+
+-- is what the two commands do, whatever of their arguments is not read
+pub cid-commands : (cards : List Card) (argument : ℕ) → map (cardAfter cards 2 argument) cards ≡ cidRound cards
+unfolding cidRound
+cid-commands cards argument = map-on (cardAfter cards 2 argument) (afterCid cards) cards (λ card k. cid-card cards argument card)
+
+pub address-commands : (cards : List Card) (a argument : ℕ) → 1 ≤ a → argument / 65536 ≡ a → map (cardAfter cards 3 argument) cards ≡ addressRound a cards
+unfolding addressRound
+address-commands cards a argument some high =
+    map-on (cardAfter cards 3 argument) (afterAddress a) cards (λ card k. address-card cards a argument some high card)
 
 abbrev pub round : ℕ → List Card → List Card
 round a cards = addressRound a (cidRound cards)
@@ -114,8 +133,8 @@ no-ready (x ∷ cards) h =
 
 module _ (cards : List Card) (g : Good cards) where
   -- the identifier of a card in Ready is among the distinct ones
-  pub among : (card : Card) → List·Memᴰ card cards → isReady card ≡ true → List·Memᴰ (identifier card) (distinct (readyOf cards))
-  among card k p = distinct-has (readyOf cards) (identifier card) (ready-member cards card k p)
+  pub among : (card : Card) → List·Memᴰ card cards → isReady card ≡ true → List·Memᴰ (identifier card) (distinct (readyIdentifiers cards))
+  among card k p = distinct-has (readyIdentifiers cards) (identifier card) (ready-member cards card k p)
 
   senders : Bitwise cidBits (map cidSender cards)
   senders =
@@ -126,15 +145,15 @@ module _ (cards : List Card) (g : Good cards) where
       subst (λ (z : Sender). (length (z .bits) ≡ cidBits) × Below 2 (z .bits)) (w .2) (bits-128 cid (good-card g (w .0) (w .1) .1), bits-below cid))
 
   -- what the line shows is the smallest identifier
-  line-first : (m : ℕ) (ms : List ℕ) → distinct (readyOf cards) ≡ m ∷ ms → spelt (contested cidBits (map cidSender cards)) ≡ m
+  line-first : (m : ℕ) (ms : List ℕ) → distinct (readyIdentifiers cards) ≡ m ∷ ms → spelt (contested cidBits (map cidSender cards)) ≡ m
   line-first m ms e =
-      let c = ready-from cards m (distinct-from (readyOf cards) m (subst (List·Memᴰ m) (sym e) (List·Memᴰ·head refl))) in
+      let c = ready-from cards m (distinct-from (readyIdentifiers cards) m (subst (List·Memᴰ m) (sym e) (List·Memᴰ·head refl))) in
       let b = line-is-smallest cidBits (map cidSender cards) senders (cidSender (c .0)) (Memᴰ·map cidSender (c .1)) (c .2) in
       let z = Memᴰ·of-map cidSender cards (b .0 .1) in
       let most : spelt (contested cidBits (map cidSender cards)) ≤ identifier (c .0) = b .1 (cidSender (c .0)) (Memᴰ·map cidSender (c .1)) (c .2) in
       let is : identifier (z .0) ≡ spelt (contested cidBits (map cidSender cards)) = ap spelt (ap (λ (s : Sender). s .bits) (z .2) ∙ b .0 .3) in
       let least : m ≤ identifier (z .0) =
-      first-under m ms (subst Ascending e (distinct-ascending (readyOf cards))) (identifier (z .0))
+      first-under m ms (subst Ascending e (distinct-ascending (readyIdentifiers cards))) (identifier (z .0))
       (subst (List·Memᴰ (identifier (z .0))) e (among (z .0) (z .1) (ap (λ (s : Sender). s .on) (z .2) ∙ b .0 .2)))
       in
       let held : identifier (c .0) ≡ m = c .3 in
@@ -150,37 +169,33 @@ module _ (cards : List Card) (g : Good cards) where
   wins-it card k p e = winners cidBits (map cidSender cards) senders (cidSender card) (Memᴰ·map cidSender k) .1 (p, e)
 
   -- a loser, and a card that sends nothing, is as it was after both commands
-  loser : (a : ℕ) → 1 ≤ a → (others : List Card) (card : Card) → List·Memᴰ card cards → winsLine cards card ≡ false
-      → cardAfter others 3 (a * 65536) (cardAfter cards 2 0 card) ≡ card
-  loser a some others card k w =
-      ap (cardAfter others 3 (a * 65536)) (cid-card cards card ∙ rw w) ∙ address-card others a some card ∙ rw (good-card g card k .0)
+  loser : (a : ℕ) (card : Card) → List·Memᴰ card cards → winsLine cards card ≡ false → afterAddress a (afterCid cards card) ≡ card
+  loser a card k w = rw (w, good-card g card k .0)
 
   -- a winner takes the address
-  winner : (a : ℕ) → 1 ≤ a → (others : List Card) (card : Card) → winsLine cards card ≡ true → isReady card ≡ true
-      → cardAfter others 3 (a * 65536) (cardAfter cards 2 0 card) ≡ reached a card
-  winner a some others card w p =
-      ap (cardAfter others 3 (a * 65536)) (cid-card cards card ∙ rw (w, p)) ∙ address-card others a some (withLink card (identified (card .link)))
+  winner : (a : ℕ) (card : Card) → winsLine cards card ≡ true → isReady card ≡ true → afterAddress a (afterCid cards card) ≡ reached a card
+  winner a card w p = rw (w, p)
 
-  round-at : (a : ℕ) → 1 ≤ a → (ids : List ℕ) → distinct (readyOf cards) ≡ ids → round a cards ≡ roundBy ids a cards
+  round-at : (a : ℕ) (ids : List ℕ) → distinct (readyIdentifiers cards) ≡ ids → round a cards ≡ roundBy ids a cards
   unfolding cidRound addressRound one
-  round-at a some [] e =
-      map-map (cardAfter (cidRound cards) 3 (a * 65536)) (cardAfter cards 2 0) cards
+  round-at a [] e =
+      map-map (afterAddress a) (afterCid cards) cards
       ∙ map-on _ (λ (card : Card). card) cards
       (λ card k.
       cases (winsLine cards card)
       (λ w. absurd (List·Memᴰ·not-nil (subst (List·Memᴰ (identifier card)) e (among card k (win card k w .0)))))
-      (λ w. loser a some (cidRound cards) card k w))
+      (λ w. loser a card k w))
       ∙ map-id cards
-  round-at a some (m ∷ ms) e =
-      map-map (cardAfter (cidRound cards) 3 (a * 65536)) (cardAfter cards 2 0) cards
+  round-at a (m ∷ ms) e =
+      map-map (afterAddress a) (afterCid cards) cards
       ∙ map-on _ _ cards
       (λ card k.
       cases (winsLine cards card)
       (λ w.
       let h = win card k w in
-      winner a some (cidRound cards) card w (h .0) ∙ sym (rw (h .0, eq-eqb (identifier card) m (h .1 ∙ line-first m ms e))))
+      winner a card w (h .0) ∙ sym (rw (h .0, eq-eqb (identifier card) m (h .1 ∙ line-first m ms e))))
       (λ w.
-      loser a some (cidRound cards) card k w
+      loser a card k w
       ∙ sym (cases (isReady card && eqb (identifier card) m)
       (λ t.
       let p = and-left (isReady card) (eqb (identifier card) m) t in
@@ -189,20 +204,20 @@ module _ (cards : List Card) (g : Good cards) where
       (λ t. rw t))))
 
   -- A round reaches those that hold the smallest identifier.
-  pub round-is : (a : ℕ) → 1 ≤ a → round a cards ≡ roundBy (distinct (readyOf cards)) a cards
-  round-is a some = round-at a some (distinct (readyOf cards)) refl
+  pub round-is : (a : ℕ) → round a cards ≡ roundBy (distinct (readyIdentifiers cards)) a cards
+  round-is a = round-at a (distinct (readyIdentifiers cards)) refl
 
   -- ---- what CMD2 shows
-  pub shows-first : (m : ℕ) (ms : List ℕ) → distinct (readyOf cards) ≡ m ∷ ms → cidLine cards ≡ 0x3F ∷ cidOf m
+  pub shows-first : (m : ℕ) (ms : List ℕ) → distinct (readyIdentifiers cards) ≡ m ∷ ms → cidLine cards ≡ 0x3F ∷ cidOf m
   unfolding cidLine cidOf
   shows-first m ms e =
-      let c = ready-from cards m (distinct-from (readyOf cards) m (subst (List·Memᴰ m) (sym e) (List·Memᴰ·head refl))) in
+      let c = ready-from cards m (distinct-from (readyIdentifiers cards) m (subst (List·Memᴰ m) (sym e) (List·Memᴰ·head refl))) in
       let shown : List ℕ = contested cidBits (map cidSender cards) in
       let back = spelt-back cidBits shown (contested-length cidBits (map cidSender cards)) (contested-below cidBits (map cidSender cards)) in
       ap (λ (t : Bool). pick t (0x3F ∷ octets 16 shown) []) (any-ready cards (c .0) (c .1) (c .2))
       ∙ ap (λ (l : List ℕ). 0x3F ∷ octets 16 l) (sym back ∙ ap (bitsOf cidBits) (line-first m ms e))
 
-  pub shows-none : distinct (readyOf cards) ≡ [] → cidLine cards ≡ []
+  pub shows-none : distinct (readyIdentifiers cards) ≡ [] → cidLine cards ≡ []
   unfolding cidLine
   shows-none e =
       ap (λ (t : Bool). pick t (0x3F ∷ octets 16 (contested cidBits (map cidSender cards))) [])

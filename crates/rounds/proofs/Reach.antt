@@ -15,13 +15,13 @@ use Prim.Native.Nat.{ℕ, zero, suc, _<_}
 use native.Mathlib.Omega.{arith}
 use borrow.Author.Tests.{eqb-true, eqb-false, lt-ltb, le-ltb}
 use lib.Dec.{eqb}
-use lib.ListN.{length, take, getD}
+use lib.ListN.{length, take}
 use Rattle.base.proofs.Cases.{cases}
 use Rattle.base.specs.Choice.{pick}
 use Rattle.bus.specs.Bus.{isReady}
-use Rattle.record.specs.declared.Card.{Card}
+use Rattle.card_record.specs.declared.Card.{Card}
 use Rattle.rounds.proofs.Distinct.{under-member, distinct-ascending, distinct-has, without, distinct-without, without-first, rank-under}
-use Rattle.rounds.specs.Demand3.{identifier, readyOf, reached}
+use Rattle.rounds.specs.Demand3.{Round, addressAt, identifier, readyIdentifiers, reached}
 use Rattle.rounds.specs.Distinct.{distinct, rank, Under, Ascending}
 
 pub map-on : {A B : Type 0} (f g : A → B) (l : List A) → ((x : A) → List·Memᴰ x l → f x ≡ g x) → map f l ≡ map g l
@@ -41,40 +41,40 @@ roundBy [] a l = l
 roundBy (m ∷ ms) a l = map (one m a) l
 
 -- the card that is reached in round j, if there are so many rounds
-unfoldable pub reach : List ℕ → ℕ → Card → Card
+unfoldable pub reach : List Round → ℕ → Card → Card
 reach [] j c = c
-reach (a ∷ addresses) zero c = reached a c
-reach (a ∷ addresses) (suc j) c = reach addresses j c
+reach (round ∷ rounds) zero c = reached (round .address) c
+reach (round ∷ rounds) (suc j) c = reach rounds j c
 
-pub reach-now : (addresses : List ℕ) (k : ℕ) (c : Card) → k < length addresses → reach (take (suc k) addresses) k c ≡ reached (getD addresses k 0) c
+pub reach-now : (rounds : List Round) (k : ℕ) (c : Card) → k < length rounds → reach (take (suc k) rounds) k c ≡ reached (addressAt rounds k) c
 unfolding reach
 reach-now [] k c h = absurd (omega arith)
-reach-now (a ∷ addresses) zero c h = refl
-reach-now (a ∷ addresses) (suc k) c h = reach-now addresses k c (omega arith)
+reach-now (round ∷ rounds) zero c h = refl
+reach-now (round ∷ rounds) (suc k) c h = reach-now rounds k c (omega arith)
 
-pub reach-not : (addresses : List ℕ) (k j : ℕ) (c : Card) → (j ≡ k → ⊥) → reach (take (suc k) addresses) j c ≡ reach (take k addresses) j c
+pub reach-not : (rounds : List Round) (k j : ℕ) (c : Card) → (j ≡ k → ⊥) → reach (take (suc k) rounds) j c ≡ reach (take k rounds) j c
 unfolding reach
 reach-not [] zero j c h = refl
 reach-not [] (suc k) j c h = refl
-reach-not (a ∷ addresses) zero zero c h = absurd (h refl)
-reach-not (a ∷ addresses) zero (suc j) c h = refl
-reach-not (a ∷ addresses) (suc k) zero c h = refl
-reach-not (a ∷ addresses) (suc k) (suc j) c h = reach-not addresses k j c (λ e. h (ap suc e))
+reach-not (round ∷ rounds) zero zero c h = absurd (h refl)
+reach-not (round ∷ rounds) zero (suc j) c h = refl
+reach-not (round ∷ rounds) (suc k) zero c h = refl
+reach-not (round ∷ rounds) (suc k) (suc j) c h = reach-not rounds k j c (λ e. h (ap suc e))
 
 -- a card whose turn is yet to come
-pub reach-yet : (addresses : List ℕ) (j : ℕ) (c : Card) → reach (take j addresses) j c ≡ c
+pub reach-yet : (rounds : List Round) (j : ℕ) (c : Card) → reach (take j rounds) j c ≡ c
 unfolding reach
 reach-yet [] zero c = refl
 reach-yet [] (suc j) c = refl
-reach-yet (a ∷ addresses) zero c = refl
-reach-yet (a ∷ addresses) (suc j) c = reach-yet addresses j c
+reach-yet (round ∷ rounds) zero c = refl
+reach-yet (round ∷ rounds) (suc j) c = reach-yet rounds j c
 
 -- what becomes of a card: one that began in Ready, with j distinct smaller identifiers, is reached in round j
-unfoldable pub final : List ℕ → List ℕ → Card → Card
-final addresses ids c = pick (isReady c) (reach addresses (rank ids (identifier c)) c) c
+unfoldable pub final : List Round → List ℕ → Card → Card
+final rounds ids c = pick (isReady c) (reach rounds (rank ids (identifier c)) c) c
 
-ready-round : (m a : ℕ) (l : List Card) → readyOf (map (one m a) l) ≡ without m (readyOf l)
-unfolding readyOf without one
+ready-round : (m a : ℕ) (l : List Card) → readyIdentifiers (map (one m a) l) ≡ without m (readyIdentifiers l)
+unfolding readyIdentifiers without one
 ready-round m a [] = refl
 ready-round m a (c ∷ l) =
     cases (isReady c)
@@ -83,29 +83,29 @@ ready-round m a (c ∷ l) =
     (λ q. rw (p, q, p) (ap (λ t. identifier c ∷ t) (ready-round m a l))))
     (λ p. simp p (ready-round m a l))
 
-pub ready-member : (l : List Card) (c : Card) → List·Memᴰ c l → isReady c ≡ true → List·Memᴰ (identifier c) (readyOf l)
-unfolding readyOf
+pub ready-member : (l : List Card) (c : Card) → List·Memᴰ c l → isReady c ≡ true → List·Memᴰ (identifier c) (readyIdentifiers l)
+unfolding readyIdentifiers
 ready-member [] c m p = absurd (List·Memᴰ·not-nil m)
 ready-member (x ∷ l) c (List·Memᴰ·head e) p = rw (sym (ap isReady e) ∙ p) (List·Memᴰ·head (ap identifier e))
 ready-member (x ∷ l) c (List·Memᴰ·tail m) p = cases (isReady x) (λ q. rw q (List·Memᴰ·tail (ready-member l c m p))) (λ q. rw q (ready-member l c m p))
 
 -- after a round, the smallest is gone from the identifiers
-pub ids-next : (m a : ℕ) (ms : List ℕ) (l : List Card) → distinct (readyOf l) ≡ m ∷ ms → distinct (readyOf (map (one m a) l)) ≡ ms
+pub ids-next : (m a : ℕ) (ms : List ℕ) (l : List Card) → distinct (readyIdentifiers l) ≡ m ∷ ms → distinct (readyIdentifiers (map (one m a) l)) ≡ ms
 ids-next m a ms l e =
-    ap distinct (ready-round m a l) ∙ distinct-without m (readyOf l) ∙ ap (without m) e
-    ∙ without-first m ms (subst Ascending e (distinct-ascending (readyOf l)))
+    ap distinct (ready-round m a l) ∙ distinct-without m (readyIdentifiers l) ∙ ap (without m) e
+    ∙ without-first m ms (subst Ascending e (distinct-ascending (readyIdentifiers l)))
 
-pub final-one : (m a : ℕ) (ms addresses : List ℕ) (l : List Card) → distinct (readyOf l) ≡ m ∷ ms → (c : Card) → List·Memᴰ c l
-    → final addresses ms (one m a c) ≡ final (a ∷ addresses) (m ∷ ms) c
+pub final-one : (m : ℕ) (round : Round) (ms : List ℕ) (rounds : List Round) (l : List Card) → distinct (readyIdentifiers l) ≡ m ∷ ms → (c : Card) → List·Memᴰ c l
+    → final rounds ms (one m (round .address) c) ≡ final (round ∷ rounds) (m ∷ ms) c
 unfolding final one rank reach Ascending
-final-one m a ms addresses l e c k =
+final-one m round ms rounds l e c k =
     cases (isReady c)
     (λ p. cases (eqb (identifier c) m)
     (λ q. let h = eqb-true (identifier c) m q in
     rw (p, q, le-ltb m (identifier c) (omega arith)) (hit (identifier c) h))
     (λ q. let ne = eqb-false (identifier c) m q in
     let here : List·Memᴰ (identifier c) (m ∷ ms) =
-    subst (List·Memᴰ (identifier c)) e (distinct-has (readyOf l) (identifier c) (ready-member l c k p))
+    subst (List·Memᴰ (identifier c)) e (distinct-has (readyIdentifiers l) (identifier c) (ready-member l c k p))
     in
     let lt : m < identifier c =
     ⊎-elim (λ r. absurd (ne r)) (λ r. under-member m ms (asc .0) (identifier c) r) (List·Memᴰ·cases-cons here)
@@ -114,23 +114,23 @@ final-one m a ms addresses l e c k =
     (λ p. simp p)
   where
     asc : Under m ms × Ascending ms
-    asc = subst Ascending e (distinct-ascending (readyOf l))
+    asc = subst Ascending e (distinct-ascending (readyIdentifiers l))
 
-    hit : (x : ℕ) → x ≡ m → reached a c ≡ reach (a ∷ addresses) (rank ms x) c
+    hit : (x : ℕ) → x ≡ m → reached (round .address) c ≡ reach (round ∷ rounds) (rank ms x) c
     hit x h = rw (h, rank-under m ms (asc .0))
 
-    miss : (j : ℕ) → reach addresses j c ≡ reach (a ∷ addresses) (suc j) c
+    miss : (j : ℕ) → reach rounds j c ≡ reach (round ∷ rounds) (suc j) c
     miss j = refl
 
-pub none-ready : (l : List Card) → distinct (readyOf l) ≡ [] → (c : Card) → List·Memᴰ c l → isReady c ≡ true → ⊥
-none-ready l e c k p = List·Memᴰ·not-nil (subst (List·Memᴰ (identifier c)) e (distinct-has (readyOf l) (identifier c) (ready-member l c k p)))
+pub none-ready : (l : List Card) → distinct (readyIdentifiers l) ≡ [] → (c : Card) → List·Memᴰ c l → isReady c ≡ true → ⊥
+none-ready l e c k p = List·Memᴰ·not-nil (subst (List·Memᴰ (identifier c)) e (distinct-has (readyIdentifiers l) (identifier c) (ready-member l c k p)))
 
-pub final-none : (addresses : List ℕ) (ids : List ℕ) (c : Card) → isReady c ≡ false → final addresses ids c ≡ c
+pub final-none : (rounds : List Round) (ids : List ℕ) (c : Card) → isReady c ≡ false → final rounds ids c ≡ c
 unfolding final
-final-none addresses ids c p = rw p
+final-none rounds ids c p = rw p
 
-pub ready-from : (l : List Card) (x : ℕ) → List·Memᴰ x (readyOf l) → (c : Card) × List·Memᴰ c l × (isReady c ≡ true) × (identifier c ≡ x)
-unfolding readyOf
+pub ready-from : (l : List Card) (x : ℕ) → List·Memᴰ x (readyIdentifiers l) → (c : Card) × List·Memᴰ c l × (isReady c ≡ true) × (identifier c ≡ x)
+unfolding readyIdentifiers
 ready-from [] x m = absurd (List·Memᴰ·not-nil m)
 ready-from (y ∷ l) x m =
     cases (isReady y)

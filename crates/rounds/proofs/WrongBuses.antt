@@ -3,43 +3,46 @@
 --   frozen-refuted    one that changes no card, whatever it shows: round 1 reaches no card
 --   hasty-refuted     one that addresses every card in round 1 and then plays along: round 2 has no answer
 --   hasty-late        the same, whatever it shows: round 2 does not reach its card
+--   strict-refuted    one that does nothing at a frame whose argument ends in a byte other than 0: a CMD2 of argument 1 has no answer
+--   strict-late       nor does a CMD3 whose bits 15..0 are 1 reach any card
 -- Document 01, "What each call owes": "A bus that does nothing fails round 1 of demand 3. A bus that addresses every card in round 1 and then
 -- plays along fails round 2."
 -- Assumes nothing.
 use mathlib.Core.Path.{_≡_, refl, ap}
 use mathlib.Core.Bool.{Bool, true}
 use mathlib.Core.List.{List, [], _∷_, _++_, map}
-use Prim.Native.Nat.{ℕ, zero, suc, _<_}
+use Prim.Native.Nat.{ℕ, zero, suc, _≤_, _<_}
 use native.Mathlib.Omega.{arith}
 use lib.Dec.{eqb}
 use lib.ListN.{length, getD, replicate}
 use Rattle.base.specs.Choice.{pick}
-use Rattle.bus.specs.Bus.{cardsOf, withCards, metWith, commandAt, cardAfter, frameFrom, anyReady, longestOf, cidLine, andLine, lineOf, padded, commandFor, busFrame}
+use Rattle.bus.specs.Bus.{cardsOf, withCards, commandAt, cardAfter, frameFrom, anyReady, longestOf, cidLine, andLine, lineOf, padded, commandFor, busFrame}
 use Rattle.bus.specs.declared.Bus.{Bus}
 use Rattle.bus.specs.declared.Shown.{Shown}
 use Rattle.bus.specs.declared.Shown.the-variants.{Line, Silent}
 use Rattle.command.specs.Sending.{sentBytes}
 use Rattle.command.specs.Answers.{responseOf, answered}
 use Rattle.command.specs.Arguments.{argumentFault}
-use Rattle.command.specs.Command.{resetTold, concluded, takenOf, commandOf}
+use Rattle.command.specs.Command.{metBy, resetTold, concluded, takenOf, commandOf}
 use Rattle.command.specs.Obey.{taggingOf, judgedOf, awaitedBy, obeyed, changeOf}
 use Rattle.crc.specs.Bits.{bits, Below}
 use Rattle.crc.specs.Crc.{divide, remainder}
-use Rattle.line.specs.Line.{line, contested, wins, together}
+use Rattle.shared_line.specs.Line.{line, contested, wins, together}
 use Rattle.lock.specs.Passwords.{holding, noPassword}
 use Rattle.moves.specs.Classes.{classOf}
 use Rattle.moves.specs.Moves.{moveOf}
 use Rattle.moves.specs.Rows.{transferRow, rowOf}
-use Rattle.record.specs.Making.{refusedMake}
-use Rattle.record.specs.Record.{withLink}
-use Rattle.record.specs.declared.Card.{Card}
-use Rattle.states.specs.States.{columnOf, numberOf}
+use Rattle.card_record.specs.Making.{refusedMake}
+use Rattle.card_record.specs.Record.{withLink}
+use Rattle.card_record.specs.declared.Card.{Card}
+use Rattle.states.specs.States.{columnOf, columnNumber}
 use Rattle.states.specs.declared.State.the-variants.{Ready}
 use Rattle.status.specs.Status.{noErrors, wordOf}
 use Rattle.tags.specs.Tagging.{noTags}
-use Rattle.wire.specs.Frames.{crc7Of, sealed, commandFrame, sentOf, framingOf}
+use Rattle.wire.specs.Frames.{crc7Of, sealed, commandFrame, fieldsOf, framingOf}
 use Rattle.wire.specs.Responses.{r1Frame, r2Frame}
-use Rattle.rounds.specs.Demand3.{Step, roundsOf, answer, before, cardAt, readyOf, identifiers, reached, CidBytes, WellFormed, NoneIdentified, Rounds, Demand3}
+use Rattle.rounds.proofs.Undamaged.{written, Fitting, written-undamaged}
+use Rattle.rounds.specs.Demand3.{Step, Round, AllUndamaged, roundsOf, answer, before, cardAt, readyIdentifiers, identifiers, reached, CidBytes, WellFormed, NoneIdentified, Rounds, Demand3}
 use Rattle.rounds.specs.Distinct.{insert, distinct}
 
 -- ---- the sample
@@ -91,15 +94,29 @@ two-unidentified zero h = refl
 two-unidentified (suc zero) h = refl
 two-unidentified (suc (suc place)) h = absurd (omega arith)
 
-abbrev addresses : List ℕ
-addresses = 1 ∷ 2 ∷ []
+-- two rounds of addresses 1 and 2, with an argument of CMD2 and low bits of CMD3, both 0 or 1
+abbrev rounds : ℕ → ℕ → List Round
+rounds argument low = written argument 1 low ∷ written argument 2 low ∷ []
 
-rounds-of : (step : Step) → Demand3 step → Rounds step two addresses
-rounds-of step d = d two addresses two-formed (omega arith) two-unidentified ((omega arith, omega arith), ((omega arith, omega arith), tt))
+undamaged : (argument low : ℕ) → argument < 2 → low < 2 → AllUndamaged (rounds argument low)
+undamaged argument low a l =
+    let fitting : (address : ℕ) → 1 ≤ address → address < 65536 → Fitting argument address low =
+    λ address some bits. record { argument-bits = omega arith; address-some = some; address-bits = bits; low-bits = omega arith }
+    in (
+      written-undamaged argument 1 low (fitting 1 (omega arith) (omega arith)),
+      (written-undamaged argument 2 low (fitting 2 (omega arith) (omega arith)), tt),
+    )
+
+rounds-of : (step : Step) → Demand3 step → (argument low : ℕ) → argument < 2 → low < 2 → Rounds step two (rounds argument low)
+rounds-of step d argument low a l = d two (rounds argument low) two-formed (omega arith) two-unidentified (undamaged argument low a l)
+
+-- with zeros
+zero-rounds : (step : Step) → Demand3 step → Rounds step two (rounds 0 0)
+zero-rounds step d = rounds-of step d 0 0 (omega arith) (omega arith)
 
 -- there are two distinct identifiers
 two-distinct : length (identifiers two) ≡ 2
-unfolding readyOf distinct insert bits
+unfolding readyIdentifiers distinct insert bits
 two-distinct = refl
 
 -- ---- a bus that does nothing
@@ -109,7 +126,7 @@ idle bus frame = record { bus = bus; shown = Silent; line = replicate 17 0 }
 pub idle-refuted : Demand3 idle → ⊥
 idle-refuted d =
     let n = two-distinct in
-    let e = rounds-of idle d .shows 0 (omega arith) (omega arith) .0 in
+    let e = zero-rounds idle d .shows 0 (omega arith) (omega arith) .0 in
     let z : _≡_ {A = ℕ} 0 1 = cc in
     omega arith
 
@@ -119,16 +136,16 @@ frozen says bus frame = record { bus = bus; shown = says bus frame .shown; line 
 
 -- the second card holds the smallest identifier, and is still in Ready after round 1
 pub frozen-refuted : (says : Step) → Demand3 (frozen says) → ⊥
-unfolding readyOf distinct insert bits roundsOf
+unfolding readyIdentifiers distinct insert bits roundsOf
 frozen-refuted says d =
-    let e : cardAt two 1 ≡ reached 1 (cardAt two 1) = rounds-of (frozen says) d .reaches 0 (omega arith) (omega arith) 1 (omega arith) (refl, refl) in
-    let state = ap (λ (c : Card). numberOf (columnOf (c .link .state))) e in
+    let e : cardAt two 1 ≡ reached 1 (cardAt two 1) = zero-rounds (frozen says) d .reaches 0 (omega arith) (omega arith) 1 (omega arith) (refl, refl) in
+    let state = ap (λ (c : Card). columnNumber (columnOf (c .link .state))) e in
     omega arith
 
 -- ---- one that addresses every card in round 1 and then plays along, whatever it shows
 -- CMD2 takes every card in Ready to Identification, as if each had won
 abbrev allWin : Card → Card
-allWin card = withLink card (commandOf (card .link) (metWith true card) 2 0 .link)
+allWin card = withLink card (commandOf (card .link) (metBy card true) 2 0 .link)
 
 -- a CMD2 by its first byte, 0, 1 and the index
 abbrev isCmd2 : List ℕ → Bool
@@ -144,28 +161,56 @@ hasty says bus frame =
 
 -- where it shows what ours would for its cards, round 1 has the right answer, and round 2 has none
 abbrev shownBy : ℕ → Shown
-shownBy k = answer (hasty busFrame) two addresses k .shown
+shownBy k = answer (hasty busFrame) two (rounds 0 0) k .shown
 
 hasty-shows : (shownBy 0 ≡ Line 17) × (shownBy 1 ≡ Silent)
-unfolding hasty roundsOf refusedMake holding commandFrame sealed crc7Of remainder divide bits busFrame framingOf sentOf commandFor withCards lineOf cidLine andLine frameFrom anyReady longestOf sentBytes r1Frame r2Frame cardAfter commandAt commandOf takenOf concluded judgedOf taggingOf argumentFault resetTold obeyed awaitedBy changeOf responseOf answered wordOf classOf moveOf rowOf transferRow line contested wins together padded
+unfolding hasty roundsOf refusedMake holding commandFrame sealed crc7Of remainder divide bits busFrame framingOf fieldsOf commandFor withCards lineOf cidLine andLine frameFrom anyReady longestOf sentBytes r1Frame r2Frame cardAfter commandAt commandOf takenOf concluded judgedOf taggingOf argumentFault resetTold obeyed awaitedBy changeOf responseOf answered wordOf classOf moveOf rowOf transferRow line contested wins together padded
 hasty-shows = (refl, refl)
 
 pub hasty-refuted : Demand3 (hasty busFrame) → ⊥
 hasty-refuted d =
     let n = two-distinct in
-    let e : shownBy 1 ≡ Line 17 = rounds-of (hasty busFrame) d .shows 1 (omega arith) (omega arith) .0 in
+    let e : shownBy 1 ≡ Line 17 = zero-rounds (hasty busFrame) d .shows 1 (omega arith) (omega arith) .0 in
     let f = hasty-shows .1 in
     let z : _≡_ {A = ℕ} 0 1 = cc in
     omega arith
 
 -- and whatever it shows, the card that should be reached in round 2 has the address of round 1
-hasty-address : (says : Step) → cardAt (before (hasty says) two addresses 2) 0 .link .address ≡ 1
-unfolding hasty roundsOf refusedMake holding commandFrame sealed crc7Of remainder divide bits busFrame framingOf sentOf commandFor withCards cardAfter commandAt commandOf takenOf concluded judgedOf taggingOf argumentFault obeyed awaitedBy responseOf answered classOf moveOf rowOf
+hasty-address : (says : Step) → cardAt (before (hasty says) two (rounds 0 0) 2) 0 .link .address ≡ 1
+unfolding hasty roundsOf refusedMake holding commandFrame sealed crc7Of remainder divide bits busFrame framingOf fieldsOf commandFor withCards cardAfter commandAt commandOf takenOf concluded judgedOf taggingOf argumentFault obeyed awaitedBy responseOf answered classOf moveOf rowOf
 hasty-address says = refl
 
 pub hasty-late : (says : Step) → Demand3 (hasty says) → ⊥
-unfolding readyOf distinct insert bits
+unfolding readyIdentifiers distinct insert bits
 hasty-late says d =
-    let e = rounds-of (hasty says) d .reaches 1 (omega arith) (omega arith) 0 (omega arith) (refl, refl) in
-    let address : cardAt (before (hasty says) two addresses 2) 0 .link .address ≡ 2 = ap (λ (c : Card). c .link .address) e in
+    let e = zero-rounds (hasty says) d .reaches 1 (omega arith) (omega arith) 0 (omega arith) (refl, refl) in
+    let address : cardAt (before (hasty says) two (rounds 0 0) 2) 0 .link .address ≡ 2 = ap (λ (c : Card). c .link .address) e in
     omega (arith, hasty-address says)
+
+-- ---- one that does nothing at a frame whose argument ends in a byte other than 0, and else is ours
+unfoldable pub strict : Step
+strict bus frame = pick (eqb (getD frame 4 0) 0) (busFrame bus frame) (idle bus frame)
+
+strict-shows : answer strict two (rounds 1 0) 0 .shown ≡ Silent
+unfolding strict roundsOf commandFrame sealed crc7Of remainder divide
+strict-shows = refl
+
+pub strict-refuted : Demand3 strict → ⊥
+strict-refuted d =
+    let n = two-distinct in
+    let e = rounds-of strict d 1 0 (omega arith) (omega arith) .shows 0 (omega arith) (omega arith) .0 in
+    let f = strict-shows in
+    let z : _≡_ {A = ℕ} 0 1 = cc in
+    omega arith
+
+-- the second card has won round 1, and is still in Identification after CMD3
+strict-state : columnNumber (columnOf (cardAt (before strict two (rounds 0 1) 1) 1 .link .state)) ≡ 2
+unfolding strict roundsOf refusedMake holding commandFrame sealed crc7Of remainder divide bits busFrame framingOf fieldsOf commandFor withCards cardAfter commandAt commandOf takenOf concluded judgedOf taggingOf argumentFault obeyed awaitedBy responseOf answered classOf moveOf rowOf line contested wins
+strict-state = refl
+
+pub strict-late : Demand3 strict → ⊥
+unfolding readyIdentifiers distinct insert bits
+strict-late d =
+    let e = rounds-of strict d 0 1 (omega arith) (omega arith) .reaches 0 (omega arith) (omega arith) 1 (omega arith) (refl, refl) in
+    let state = ap (λ (c : Card). columnNumber (columnOf (c .link .state))) e in
+    omega (arith, strict-state)

@@ -1,9 +1,11 @@
 -- Demand 3: what rounds of CMD2 and CMD3 do on a bus of 1 to 30 cards, whatever their records are, if none begins in Identification.
 --
--- How to read it. A definition is a name, its type, and after `=` what it stands for: `cmd3 address` is the frame CMD3 of that address.
+-- How to read it. A definition is a name, its type, and after `=` what it stands for: `roundOf step bus round` is the bus after that round.
 -- `getD list k d` is the entry at place k of a list, counted from 0 (d would stand in for one that is not there), `take k list` are its
 -- first k entries, `length list` is their number. `≡` is "is", `×` is "and", `A → B` is "if A, then B", `↔` is "exactly if", `→ ⊥` is
--- "is not so". `x .name` is the field `name` of x. Rounds are counted from 0 here: round k is the (k + 1)-th.
+-- "is not so", and `(x : ℕ) × ..` is "there is a number x, and ..". A `record` has the fields that are listed in it, each of which must be
+-- so where it says something; `x .name` is the field `name` of x. `[]` is the empty list, `x ∷ xs` is x and then the list xs. `Unit` asks
+-- for nothing. Rounds are counted from 0 here: round k is the (k + 1)-th.
 --
 -- `Demand3 step` is said of any bus that answers frames, `step`, so that wrong ones can be refuted (proofs/WrongBuses.antt). That it holds
 -- of ours, `busFrame`, which the promise of the call `bus::frame` names, is `demand3` in proofs/Demand3.antt.
@@ -12,7 +14,7 @@ use mathlib.Core.Bool.{Bool, true, false}
 use mathlib.Core.List.{List, [], _∷_, List·Memᴰ}
 use mathlib.Core.Logic.{_↔_}
 use mathlib.Core.Path.{_≡_}
-use Prim.Native.Nat.{ℕ, suc, _*_, _≤_, _<_}
+use Prim.Native.Nat.{ℕ, suc, _/_, _≤_, _<_}
 use lib.Dec.{eqb}
 use lib.ListN.{length, take, drop, getD}
 use Rattle.base.specs.Choice.{pick}
@@ -21,14 +23,15 @@ use Rattle.bus.specs.declared.Bus.{Bus}
 use Rattle.bus.specs.declared.Framed.{Framed}
 use Rattle.bus.specs.declared.Shown.the-variants.{Line, Silent}
 use Rattle.crc.specs.Bits.{bitsOf, bits, spelt, octets}
-use Rattle.record.specs.Making.{refusedMake}
-use Rattle.record.specs.Record.{withLink}
-use Rattle.record.specs.declared.Card.{Card}
-use Rattle.states.specs.States.{columnOf, numberOf}
+use Rattle.card_record.specs.Making.{refusedMake}
+use Rattle.card_record.specs.Record.{withLink}
+use Rattle.card_record.specs.declared.Card.{Card}
+use Rattle.states.specs.States.{columnOf, columnNumber}
 use Rattle.states.specs.declared.State.the-variants.{Stby}
 use Rattle.status.specs.Status.{noErrors}
 use Rattle.tags.specs.Tagging.{noTags}
-use Rattle.wire.specs.Frames.{commandFrame}
+use Rattle.wire.specs.Frames.{frameOf}
+use Rattle.wire.specs.declared.Frame.the-variants.{Command}
 use Rattle.rounds.specs.Distinct.{distinct, rank, Ascending}
 
 -- ---- rounds
@@ -36,29 +39,54 @@ use Rattle.rounds.specs.Distinct.{distinct, rank, Ascending}
 abbrev pub Step : Type 0
 Step = Bus → List ℕ → Framed
 
--- an undamaged CMD2, and an undamaged CMD3 of an address ("argument bits 31..16"): the frames that the frame writer gives
-abbrev pub cmd2 : List ℕ
-cmd2 = commandFrame 2 0
+-- a round: the bytes of a CMD2, then those of a CMD3, and the address that CMD3 is to give
+pub record Round : Type 0 where
+  pub cmd2 : List ℕ
+  pub cmd3 : List ℕ
+  pub address : ℕ
 
-abbrev pub cmd3 : ℕ → List ℕ
-cmd3 address = commandFrame 3 (address * 65536)
+-- bytes that are read as CMD2, undamaged, by the promise of the call `wire::read_frame`. Its argument may be any: no card reads it
+abbrev pub IsCmd2 : List ℕ → Type 0
+IsCmd2 frame = (argument : ℕ) × (frameOf frame ≡ Command 2 argument)
 
--- a round: CMD2, then CMD3 with the round's address
-abbrev pub roundOf : Step → Bus → ℕ → Bus
-roundOf step bus address = step (step bus cmd2 .bus) (cmd3 address) .bus
+-- bytes that are read as CMD3 with an address, "argument bits 31..16". Bits 15..0 may be any: no card reads them
+abbrev pub IsCmd3 : ℕ → List ℕ → Type 0
+IsCmd3 address frame = (argument : ℕ) × ((frameOf frame ≡ Command 3 argument) × (argument / 65536 ≡ address))
 
--- the bus after a round for each address of a list
-unfoldable pub roundsOf : Step → Bus → List ℕ → Bus
+-- an undamaged round: "an undamaged CMD2", and "an undamaged CMD3" with the round's address, which is not 0. Those that our frame writer
+-- writes are such (`written-undamaged` in proofs/Undamaged.antt)
+pub record Undamaged (round : Round) : Type 0 where
+  pub cmd2 : IsCmd2 (round .cmd2)
+  pub cmd3 : IsCmd3 (round .address) (round .cmd3)
+  pub address : 1 ≤ round .address
+
+-- each round of a list is. That their addresses differ is not asked
+abbrev pub AllUndamaged : List Round → Type 0
+AllUndamaged [] = Unit {0}
+AllUndamaged (round ∷ rounds) = Undamaged round × AllUndamaged rounds
+
+-- the bus after a round, and after the rounds of a list
+abbrev pub roundOf : Step → Bus → Round → Bus
+roundOf step bus round = step (step bus (round .cmd2) .bus) (round .cmd3) .bus
+
+unfoldable pub roundsOf : Step → Bus → List Round → Bus
 roundsOf step bus [] = bus
-roundsOf step bus (address ∷ addresses) = roundsOf step (roundOf step bus address) addresses
+roundsOf step bus (round ∷ rounds) = roundsOf step (roundOf step bus round) rounds
 
--- the bus as round k finds it, after k rounds; and so the bus that round k leaves is `before step bus addresses (suc k)`
-abbrev pub before : Step → Bus → List ℕ → ℕ → Bus
-before step bus addresses k = roundsOf step bus (take k addresses)
+-- round k of a list, and its address
+abbrev pub roundAt : List Round → ℕ → Round
+roundAt rounds k = getD rounds k (record { cmd2 = []; cmd3 = []; address = 0 })
+
+abbrev pub addressAt : List Round → ℕ → ℕ
+addressAt rounds k = roundAt rounds k .address
+
+-- the bus as round k finds it, after k rounds; and so the bus that round k leaves is `before step bus rounds (suc k)`
+abbrev pub before : Step → Bus → List Round → ℕ → Bus
+before step bus rounds k = roundsOf step bus (take k rounds)
 
 -- what CMD2 of round k is answered
-abbrev pub answer : Step → Bus → List ℕ → ℕ → Framed
-answer step bus addresses k = step (before step bus addresses k) cmd2
+abbrev pub answer : Step → Bus → List Round → ℕ → Framed
+answer step bus rounds k = step (before step bus rounds k) (roundAt rounds k .cmd2)
 
 -- ---- cards and their identifiers
 -- the card in a place, counted from 0
@@ -73,13 +101,13 @@ unfoldable pub cidOf : ℕ → List ℕ
 cidOf number = octets 16 (bitsOf 128 number)
 
 -- the identifiers of the cards in Ready, in the order of their places
-unfoldable pub readyOf : List Card → List ℕ
-readyOf [] = []
-readyOf (card ∷ cards) = pick (isReady card) (identifier card ∷ readyOf cards) (readyOf cards)
+unfoldable pub readyIdentifiers : List Card → List ℕ
+readyIdentifiers [] = []
+readyIdentifiers (card ∷ cards) = pick (isReady card) (identifier card ∷ readyIdentifiers cards) (readyIdentifiers cards)
 
 -- the distinct ones among them, smallest first
 abbrev pub identifiers : Bus → List ℕ
-identifiers bus = distinct (readyOf (cardsOf bus))
+identifiers bus = distinct (readyIdentifiers (cardsOf bus))
 
 -- that one, counted from 0
 abbrev pub nth : Bus → ℕ → ℕ
@@ -106,47 +134,42 @@ WellFormed bus = (length (bus .cards) ≡ 30) × ((place : ℕ) → place < 30 �
 
 -- no card is in Identification
 abbrev pub isIdent : Card → Bool
-isIdent card = eqb (numberOf (columnOf (card .link .state))) 2
+isIdent card = eqb (columnNumber (columnOf (card .link .state))) 2
 
 abbrev pub NoneIdentified : Bus → Type 0
 NoneIdentified bus = (place : ℕ) → place < countOf bus → isIdent (cardAt bus place) ≡ false
 
--- an address for each round: 16 bits, not 0. That they differ is not asked
-abbrev pub Usable : List ℕ → Type 0
-Usable [] = Unit {0}
-Usable (address ∷ addresses) = ((1 ≤ address) × (address < 65536)) × Usable addresses
-
--- ---- the demand, of a bus as it begins and the addresses of the rounds
-pub record Rounds (step : Step) (bus : Bus) (addresses : List ℕ) : Type 0 where
+-- ---- the demand, of a bus as it begins and the rounds that are sent
+pub record Rounds (step : Step) (bus : Bus) (rounds : List Round) : Type 0 where
   -- the identifiers are those of the cards that begin in Ready, each once, in ascending order
   pub ascending : Ascending (identifiers bus)
   pub each : (number : ℕ) → List·Memᴰ number (identifiers bus) ↔ ((place : ℕ) × ((place < countOf bus) × Holds bus place number))
   -- each is the number of 16 bytes, which are the CID of every card that holds it
   pub cid : (place : ℕ) → place < countOf bus → cidOf (identifier (cardAt bus place)) ≡ cardAt bus place .registers .cid
   -- while any are left, round k shows the k-th: the answer of CMD2 is R2 of 17 bytes, 3F and then that CID
-  pub shows : (k : ℕ) → k < length addresses → k < length (identifiers bus)
-      → (answer step bus addresses k .shown ≡ Line 17) × (answer step bus addresses k .line ≡ 0x3F ∷ cidOf (nth bus k))
+  pub shows : (k : ℕ) → k < length rounds → k < length (identifiers bus)
+      → (answer step bus rounds k .shown ≡ Line 17) × (answer step bus rounds k .line ≡ 0x3F ∷ cidOf (nth bus k))
   -- and the cards that began in Ready and hold it go to Stand-by with that round's address, all else being as it began
-  pub reaches : (k : ℕ) → k < length addresses → k < length (identifiers bus)
+  pub reaches : (k : ℕ) → k < length rounds → k < length (identifiers bus)
       → (place : ℕ) → place < countOf bus → Holds bus place (nth bus k)
-      → cardAt (before step bus addresses (suc k)) place ≡ reached (getD addresses k 0) (cardAt bus place)
+      → cardAt (before step bus rounds (suc k)) place ≡ reached (addressAt rounds k) (cardAt bus place)
   -- and no other card changes, in any field
-  pub others : (k : ℕ) → k < length addresses → k < length (identifiers bus)
+  pub others : (k : ℕ) → k < length rounds → k < length (identifiers bus)
       → (place : ℕ) → place < countOf bus → (Holds bus place (nth bus k) → ⊥)
-      → cardAt (before step bus addresses (suc k)) place ≡ cardAt (before step bus addresses k) place
+      → cardAt (before step bus rounds (suc k)) place ≡ cardAt (before step bus rounds k) place
   -- a card that began in Ready with j distinct smaller identifiers is as it began up to round j, and reached in round j
   pub turn : (place : ℕ) → place < countOf bus → isReady (cardAt bus place) ≡ true
-      → (j : ℕ) → rank (identifiers bus) (identifier (cardAt bus place)) ≡ j → j < length addresses
-      → (cardAt (before step bus addresses j) place ≡ cardAt bus place)
-      × (cardAt (before step bus addresses (suc j)) place ≡ reached (getD addresses j 0) (cardAt bus place))
+      → (j : ℕ) → rank (identifiers bus) (identifier (cardAt bus place)) ≡ j → j < length rounds
+      → (cardAt (before step bus rounds j) place ≡ cardAt bus place)
+      × (cardAt (before step bus rounds (suc j)) place ≡ reached (addressAt rounds j) (cardAt bus place))
   -- after the last, CMD2 gets no answer, and a round changes nothing on the bus
-  pub last : (k : ℕ) → k < length addresses → length (identifiers bus) ≤ k
-      → (answer step bus addresses k .shown ≡ Silent) × (before step bus addresses (suc k) ≡ before step bus addresses k)
+  pub last : (k : ℕ) → k < length rounds → length (identifiers bus) ≤ k
+      → (answer step bus rounds k .shown ≡ Silent) × (before step bus rounds (suc k) ≡ before step bus rounds k)
   -- no round adds a card, takes one away, or changes a place that is not taken
-  pub places : (k : ℕ) → (before step bus addresses k .count ≡ bus .count)
-      × (drop (countOf bus) (before step bus addresses k .cards) ≡ drop (countOf bus) (bus .cards))
+  pub places : (k : ℕ) → (before step bus rounds k .count ≡ bus .count)
+      × (drop (countOf bus) (before step bus rounds k .cards) ≡ drop (countOf bus) (bus .cards))
 
--- of every bus of 1 to 30 cards, any records, none in Identification, and any list of addresses
+-- of every bus of 1 to 30 cards, any records, none in Identification, and any list of undamaged rounds
 abbrev pub Demand3 : Step → Type 0
 Demand3 step =
-    (bus : Bus) (addresses : List ℕ) → WellFormed bus → 1 ≤ countOf bus → NoneIdentified bus → Usable addresses → Rounds step bus addresses
+    (bus : Bus) (rounds : List Round) → WellFormed bus → 1 ≤ countOf bus → NoneIdentified bus → AllUndamaged rounds → Rounds step bus rounds

@@ -4,7 +4,7 @@
 //
 // Offers: `well_formed`.
 use bus::Bus;
-use record::Card;
+use card_record::Card;
 ghost use mathlib.Core.Bool.{true};
 ghost use mathlib.Core.Path.{_≡_};
 ghost use Rattle.rounds.specs.Demand3.{CidBytes, WellFormed};

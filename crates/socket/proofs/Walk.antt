@@ -40,7 +40,7 @@ Typed τ v = T (hasTy τ v) × WT v
 
 -- the local whose value and whose block stand at place n of the context is freed
 module _ {M : Type 1} {𝓤 : URA M} {H : Heap 𝓤} {A : Atoms 𝓤} {K : Type 0} {W : Given 𝓤 H A} {Γ : List (Item 𝓤)} where
-  frees-at : K → (n : ℕ) {τ : Ty} {b : ℕ} {v : Val} {E : Env 𝓤 H} {g : Goal 𝓤 H} → nth 𝓤 H A n Γ ≡ ‵ (fat fullShare τ b 0 v) → nth 𝓤 H A n (del 𝓤 H A n Γ) ≡ ‵ (fdies τ b)
+  pub frees-at : K → (n : ℕ) {τ : Ty} {b : ℕ} {v : Val} {E : Env 𝓤 H} {g : Goal 𝓤 H} → nth 𝓤 H A n Γ ≡ ‵ (fat fullShare τ b 0 v) → nth 𝓤 H A n (del 𝓤 H A n Γ) ≡ ‵ (fdies τ b)
       → Step K W (del 𝓤 H A n (del 𝓤 H A n Γ)) (frees E g) Γ (frees ((τ, b) ∷ E) g)
   frees-at t n {τ} {b} {v} is-cell is-block = stepping (λ s. record {
     prf =

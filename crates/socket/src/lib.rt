@@ -1,10 +1,11 @@
 // The socket (document 01, "How a card takes a frame"): "the card record stays in its place and is
 // altered there". One thin call, which is the step of crates/card.
 //
-// Offers: `socket`.
+// Offers: `socket`, `step_in_place`.
 use card::Call;
 use card::Reply;
-use record::Card;
+use card::Stepped;
+use card_record::Card;
 ghost use mathlib.Core.Path.{_≡_};
 ghost use lib.ListN.{length};
 ghost use Rattle.card.specs.Step.{stepOf, memoryOf, mapOf, outputOf};
@@ -27,4 +28,24 @@ pub fn socket(
     let stepped = card::step(*card, call, input, memory, map, out);
     *card = stepped.card;
     stepped.reply
+}
+
+// The same for whoever has the record by value: it is put into a place, altered there by `socket`,
+// and given back.
+pub fn step_in_place(
+    card: Card,
+    call: Call,
+    input: &[u8],
+    memory: &mut [u8],
+    map: &mut [u8],
+    out: &mut [u8],
+) -> Stepped
+    ensures answer { λ r. ⌜ r ≡ stepOf card call (now (input .entry)) (length (now (memory .entry))) (now (map .entry)) (length (now (out .entry))) ⌝ }
+    ensures memory { λ _. ⌜ now (memory .exit) ≡ memoryOf card call (now (input .entry)) (now (memory .entry)) (now (map .entry)) ⌝ }
+    ensures map { λ _. ⌜ now (map .exit) ≡ mapOf card call (now (input .entry)) (length (now (memory .entry))) (now (map .entry)) ⌝ }
+    ensures output { λ _. ⌜ now (out .exit) ≡ outputOf card call (now (memory .entry)) (now (map .entry)) (now (out .entry)) ⌝ }
+{
+    let mut place = card;
+    let reply = socket(&mut place, call, input, memory, map, out);
+    Stepped { card: place, reply }
 }

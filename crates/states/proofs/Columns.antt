@@ -8,7 +8,7 @@ use mathlib.Core.List.{List, [], _∷_}
 use Prim.Native.Nat.{ℕ, _<_}
 use native.Mathlib.Omega.{arith}
 use lib.ListN.{getD}
-use Rattle.states.specs.States.{numberOf}
+use Rattle.states.specs.States.{columnNumber}
 use Rattle.states.specs.declared.Column.{Column}
 use Rattle.states.specs.declared.Column.the-variants.{Idle, Ready, Ident, Stby, Tran, Data, Rcv, Prg, Dis, Ina}
 
@@ -18,7 +18,7 @@ columns = Idle ∷ Ready ∷ Ident ∷ Stby ∷ Tran ∷ Data ∷ Rcv ∷ Prg �
 abbrev pub columnBy : ℕ → Column
 columnBy n = getD columns n Idle
 
-pub column-placed : (column : Column) → (numberOf column < 10) × (columnBy (numberOf column) ≡ column)
+pub column-placed : (column : Column) → (columnNumber column < 10) × (columnBy (columnNumber column) ≡ column)
 column-placed Idle = (omega arith, refl)
 column-placed Ready = (omega arith, refl)
 column-placed Ident = (omega arith, refl)

@@ -8,7 +8,7 @@
 -- Assumes nothing.
 use mathlib.Core.Path.{_≡_, sym, ap, _∙_}
 use native.Mathlib.Omega.{arith}
-use Rattle.states.specs.States.{columnOf, numberOf}
+use Rattle.states.specs.States.{columnOf, columnNumber}
 use Rattle.states.specs.declared.Column.{Column}
 use Rattle.states.specs.declared.Column.the-variants.{Idle, Data, Prg, Ina}
 use Rattle.states.specs.declared.Incoming.the-variants.{LockRequest}
@@ -16,16 +16,16 @@ use Rattle.states.specs.declared.State.the-variants.{Rcv, Dis}
 use Rattle.states.proofs.Columns.{columnBy, column-placed}
 
 rcv-read-as-data : columnOf (Rcv LockRequest) ≡ Data → ⊥
-rcv-read-as-data e = let n = ap numberOf e in omega arith
+rcv-read-as-data e = let n = ap columnNumber e in omega arith
 
 dis-read-as-prg : columnOf Dis ≡ Prg → ⊥
-dis-read-as-prg e = let n = ap numberOf e in omega arith
+dis-read-as-prg e = let n = ap columnNumber e in omega arith
 
-number-shared : (a b : Column) → numberOf a ≡ numberOf b → a ≡ b
+number-shared : (a b : Column) → columnNumber a ≡ columnNumber b → a ≡ b
 number-shared a b e = sym (column-placed a .1) ∙ ap columnBy e ∙ column-placed b .1
 
-numbers-from-1 : numberOf Idle ≡ 1 → ⊥
+numbers-from-1 : columnNumber Idle ≡ 1 → ⊥
 numbers-from-1 e = omega arith
 
-inactive-as-dis : numberOf Ina ≡ 8 → ⊥
+inactive-as-dis : columnNumber Ina ≡ 8 → ⊥
 inactive-as-dis e = omega arith

@@ -20,14 +20,14 @@ columnOf state.Dis = Dis
 columnOf state.Ina = Ina
 
 -- "12..9 the state on reception, idle 0 to dis 8"; ina, which never answers, comes after them
-abbrev pub numberOf : Column → ℕ
-numberOf Idle = 0
-numberOf Ready = 1
-numberOf Ident = 2
-numberOf Stby = 3
-numberOf Tran = 4
-numberOf Data = 5
-numberOf Rcv = 6
-numberOf Prg = 7
-numberOf Dis = 8
-numberOf Ina = 9
+abbrev pub columnNumber : Column → ℕ
+columnNumber Idle = 0
+columnNumber Ready = 1
+columnNumber Ident = 2
+columnNumber Stby = 3
+columnNumber Tran = 4
+columnNumber Data = 5
+columnNumber Rcv = 6
+columnNumber Prg = 7
+columnNumber Dis = 8
+columnNumber Ina = 9

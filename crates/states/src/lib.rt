@@ -3,7 +3,7 @@
 //
 // Offers: `Incoming`, `Outgoing`, `State`; `Column`, `column_of`, `number`.
 ghost use mathlib.Core.Path.{_≡_};
-ghost use Rattle.states.specs.States.{columnOf, numberOf};
+ghost use Rattle.states.specs.States.{columnOf, columnNumber};
 
 // What a card in rcv awaits: a block at an address, blocks from an address on, a lock request.
 pub enum Incoming {
@@ -66,7 +66,7 @@ pub fn column_of(state: State) -> Column
 
 // The number of a state: a status shows it, and a table of moves is indexed by it.
 pub fn number(column: Column) -> u8
-    ensures answer { λ r. ⌜ r ≡ numberOf column ⌝ }
+    ensures answer { λ r. ⌜ r ≡ columnNumber column ⌝ }
 {
     match column {
         Column::Idle => 0,

@@ -1,5 +1,5 @@
 -- What a status tells whoever reads it.
---   word-state, word-locked, word-ready   bits 12 to 9 are the number of the state, bit 25 the lock flag, bit 8 is 0 in prg and dis alone
+--   word-state, word-locked, word-buffer-empty   bits 12 to 9 are the number of the state, bit 25 the lock flag, bit 8 is 0 in prg and dis alone
 --   word-shown        the error bits are those that are shown
 --   word-determines   so equal words come from the same shown bits, lock flag and state
 --   stray-hidden      errors that agree on the named bits give the same words
@@ -11,12 +11,12 @@ use Prim.Native.Nat.{ℕ, _+_, _*_, _/_, _%_, _^_, _<_}
 use native.Mathlib.Nat.{min-zero, add-assoc}
 use native.Mathlib.Omega.{arith}
 use lib.Bits.{bitAnd, bitOr, and-zero-r, and-self, and-mod, and-block, and-shifted, and-comm, or-disjoint, or-zero-r}
-use Rattle.states.specs.States.{numberOf}
+use Rattle.states.specs.States.{columnNumber}
 use Rattle.states.specs.declared.Column.{Column}
 use Rattle.states.specs.declared.Column.the-variants.{Stby, Tran, Prg}
 use Rattle.status.specs.Bits.{bitAt}
 use Rattle.status.specs.ErrorBits.{placeOf, errorBits, errorBit, wordWith}
-use Rattle.status.specs.Status.{noErrors, withBit, shown, flag, readyOf, wordOf}
+use Rattle.status.specs.Status.{noErrors, withBit, shown, flag, bufferEmpty, wordOf}
 use Rattle.status.specs.declared.ErrorBit.{ErrorBit}
 use Rattle.status.specs.declared.Errors.{Errors}
 use Rattle.status.proofs.Bits.{bit-and, and-assoc, and-or}
@@ -26,7 +26,7 @@ use Rattle.status.proofs.Fields.{flag-lt}
 
 -- what stands beside the error bits
 abbrev beside : Bool → Column → ℕ
-beside locked on = flag locked * 2 ^ 25 + (numberOf on * 2 ^ 9 + flag (readyOf on) * 2 ^ 8)
+beside locked on = flag locked * 2 ^ 25 + (columnNumber on * 2 ^ 9 + flag (bufferEmpty on) * 2 ^ 8)
 
 -- shown error bits leave bits 12 to 0 and bit 25 free
 low-free : (e : Errors) → shown e % 8192 ≡ 0
@@ -36,17 +36,17 @@ lock-free : (e : Errors) → shown e / 33554432 % 2 ≡ 0
 lock-free e = bit-and 25 (e .bits) (wordWith errorBits) ∙ min-zero (bitAt 25 (e .bits))
 
 module _ (e : Errors) (locked : Bool) (on : Column) where
-  pub word-state : wordOf e locked on / 2 ^ 9 % 2 ^ 4 ≡ numberOf on
+  pub word-state : wordOf e locked on / 2 ^ 9 % 2 ^ 4 ≡ columnNumber on
   unfolding wordOf
-  word-state = omega (arith, low-free e, flag-lt (readyOf on), column-placed on .0)
+  word-state = omega (arith, low-free e, flag-lt (bufferEmpty on), column-placed on .0)
 
   pub word-locked : bitAt 25 (wordOf e locked on) ≡ flag locked
   unfolding wordOf
-  word-locked = omega (arith, low-free e, lock-free e, flag-lt locked, flag-lt (readyOf on), column-placed on .0)
+  word-locked = omega (arith, low-free e, lock-free e, flag-lt locked, flag-lt (bufferEmpty on), column-placed on .0)
 
-  pub word-ready : bitAt 8 (wordOf e locked on) ≡ flag (readyOf on)
+  pub word-buffer-empty : bitAt 8 (wordOf e locked on) ≡ flag (bufferEmpty on)
   unfolding wordOf
-  word-ready = omega (arith, low-free e, flag-lt (readyOf on))
+  word-buffer-empty = omega (arith, low-free e, flag-lt (bufferEmpty on))
 
 -- all error bits: those from 25 on, and those from 13 to 24
 abbrev high : ℕ
@@ -62,8 +62,8 @@ free-25 false = refl
 
 apart : (locked : Bool) (on : Column) → bitAnd (wordWith errorBits) (beside locked on) ≡ 0
 apart locked on =
-    let low : ℕ = numberOf on * 2 ^ 9 + flag (readyOf on) * 2 ^ 8 in
-    let small : low < 2 ^ 13 = omega (arith, flag-lt (readyOf on), column-placed on .0) in
+    let low : ℕ = columnNumber on * 2 ^ 9 + flag (bufferEmpty on) * 2 ^ 8 in
+    let small : low < 2 ^ 13 = omega (arith, flag-lt (bufferEmpty on), column-placed on .0) in
     and-block 25 high (flag locked) (middle * 2 ^ 13) low (omega arith) (omega arith)
     ∙ ap₂ (λ (x y : ℕ). x * 2 ^ 25 + y) (free-25 locked) (and-shifted middle 13 low small)
 
@@ -71,7 +71,7 @@ module _ (e : Errors) (locked : Bool) (on : Column) where
   as-or : wordOf e locked on ≡ bitOr (shown e) (beside locked on)
   unfolding wordOf
   as-or =
-      add-assoc (shown e) (flag locked * 2 ^ 25) (numberOf on * 2 ^ 9 + flag (readyOf on) * 2 ^ 8)
+      add-assoc (shown e) (flag locked * 2 ^ 25) (columnNumber on * 2 ^ 9 + flag (bufferEmpty on) * 2 ^ 8)
       ∙ sym
       (or-disjoint (shown e) (beside locked on)
       (and-assoc (e .bits) (wordWith errorBits) (beside locked on) ∙ ap (bitAnd (e .bits)) (apart locked on) ∙ and-zero-r (e .bits)))
@@ -96,14 +96,14 @@ pub word-determines : (e f : Errors) (l m : Bool) (c d : Column) → wordOf e l 
 word-determines e f l m c d same =
     let bits : shown e ≡ shown f = sym (word-shown e l c) ∙ ap (λ (x : ℕ). bitAnd x (wordWith errorBits)) same ∙ word-shown f m d in
     let locked : flag l ≡ flag m = sym (word-locked e l c) ∙ ap (bitAt 25) same ∙ word-locked f m d in
-    let state : numberOf c ≡ numberOf d = sym (word-state e l c) ∙ ap (λ (x : ℕ). x / 2 ^ 9 % 2 ^ 4) same ∙ word-state f m d in
+    let state : columnNumber c ≡ columnNumber d = sym (word-state e l c) ∙ ap (λ (x : ℕ). x / 2 ^ 9 % 2 ^ 4) same ∙ word-state f m d in
     (bits, (flag-back l m locked, sym (column-placed c .1) ∙ ap columnBy state ∙ column-placed d .1))
 
 pub stray-hidden : (e f : Errors) → ((b : ErrorBit) → bitAt (placeOf b) (e .bits) ≡ bitAt (placeOf b) (f .bits))
     → (locked : Bool) (on : Column) → wordOf e locked on ≡ wordOf f locked on
 unfolding wordOf
 stray-hidden e f h locked on =
-    ap (λ (x : ℕ). x + flag locked * 2 ^ 25 + (numberOf on * 2 ^ 9 + flag (readyOf on) * 2 ^ 8)) (same-shown e f h)
+    ap (λ (x : ℕ). x + flag locked * 2 ^ 25 + (columnNumber on * 2 ^ 9 + flag (bufferEmpty on) * 2 ^ 8)) (same-shown e f h)
 
 -- ---- computed
 -- nothing pending, unlocked

@@ -1,5 +1,5 @@
 -- Wrong answers that the promises rule out, each refuted at a sample that antt computes: a call's answer is the definition, so a call
--- that gave the wrong answer would make the two equal. (Those of set, taken, pending and word are laws of the files beside this one.)
+-- that gave the wrong answer would make the two equal. (Those of set, clear_command_bits, pending and word are laws of the files beside this one.)
 --   error-left     an error bit left by `none`
 --   stray-left     a bit without a name left by it
 -- Assumes nothing.

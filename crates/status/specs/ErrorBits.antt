@@ -1,9 +1,10 @@
 -- The error bits of document 01, with the places and the words of source document 001, chapter "Status".
 -- Assumes nothing.
+use mathlib.Core.Bool.{Bool}
 use mathlib.Core.List.{List, [], _∷_}
 use Prim.Native.Nat.{ℕ, _+_, _^_}
 use lib.Dec.{eqb}
-use Rattle.base.specs.Choice.{pick}
+use Rattle.base.specs.Numbered.{firstWith, InTable, inTable}
 use Rattle.status.specs.declared.ErrorBit.{ErrorBit}
 use Rattle.status.specs.declared.ErrorBit.the-variants.{OutOfRange, AddressError, BlockLenError, EraseSeqError, EraseParam, WpViolation, LockUnlockFailed, ComCrcError, IllegalCommand, WpEraseSkip, EraseReset}
 
@@ -38,14 +39,17 @@ errorBits =
     OutOfRange ∷ AddressError ∷ BlockLenError ∷ EraseSeqError ∷ EraseParam ∷ WpViolation ∷ LockUnlockFailed ∷ ComCrcError ∷ IllegalCommand ∷
     WpEraseSkip ∷ EraseReset ∷ []
 
--- the first of a list that stands at a place, and another if none does
-abbrev pub firstAt : ℕ → List ErrorBit → ErrorBit → ErrorBit
-firstAt place [] other = other
-firstAt place (b ∷ bs) other = pick (eqb (placeOf b) place) b (firstAt place bs other)
+-- the error bit at a place, for what is said over places; only where there is one does it mean something (`isErrorBit`)
+abbrev pub errorBitAt : ℕ → ErrorBit
+errorBitAt place = firstWith placeOf place errorBits OutOfRange
 
--- the error bit at a place, so that rules can speak the document's numbers: `errorBit 31`
-abbrev pub errorBit : ℕ → ErrorBit
-errorBit place = firstAt place errorBits OutOfRange
+-- whether an error bit stands at a place
+abbrev pub isErrorBit : ℕ → Bool
+isErrorBit place = eqb (placeOf (errorBitAt place)) place
+
+-- the error bit at a place, so that rules can speak the document's numbers: `errorBit 31`. `errorBit 14` is no error bit, so no rule can set it
+abbrev pub errorBit : (place : ℕ) → InTable ErrorBit (isErrorBit place)
+errorBit place = inTable (isErrorBit place) (errorBitAt place)
 
 -- the word in which the bits of a list, each named once, are set
 abbrev pub wordWith : List ErrorBit → ℕ

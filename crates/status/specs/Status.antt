@@ -4,7 +4,7 @@ use mathlib.Core.Bool.{Bool, true, false}
 use mathlib.Core.List.{List, [], _∷_}
 use Prim.Native.Nat.{ℕ, _+_, _-_, _*_, _^_}
 use lib.Bits.{bitAnd, bitOr}
-use Rattle.states.specs.States.{numberOf}
+use Rattle.states.specs.States.{columnNumber}
 use Rattle.states.specs.declared.Column.{Column}
 use Rattle.states.specs.declared.Column.the-variants.{Idle, Ready, Ident, Stby, Tran, Data, Rcv, Prg, Dis, Ina}
 use Rattle.status.specs.ErrorBits.{placeOf, errorBits, errorBit, wordWith}
@@ -24,8 +24,8 @@ abbrev pub without : List ErrorBit → ℕ → ℕ
 without cleared bits = bitAnd bits (2 ^ 32 - 1 - wordWith cleared)
 
 -- "Other taken commands clear bits 23 and 22 only"
-abbrev pub takenOf : Errors → Errors
-takenOf errors = record { bits = without (errorBit 23 ∷ errorBit 22 ∷ []) (errors .bits) }
+abbrev pub commandBitsCleared : Errors → Errors
+commandBitsCleared errors = record { bits = without (errorBit 23 ∷ errorBit 22 ∷ []) (errors .bits) }
 
 -- the error bits as R1 shows them: a bit that document 01 does not name is never shown
 abbrev pub shown : Errors → ℕ
@@ -35,19 +35,19 @@ abbrev pub flag : Bool → ℕ
 flag true = 1
 flag false = 0
 
--- "bit 8 is 0 in prg and dis, else 1"
-abbrev pub readyOf : Column → Bool
-readyOf Idle = true
-readyOf Ready = true
-readyOf Ident = true
-readyOf Stby = true
-readyOf Tran = true
-readyOf Data = true
-readyOf Rcv = true
-readyOf Prg = false
-readyOf Dis = false
-readyOf Ina = true
+-- "bit 8 is 0 in prg and dis, else 1": BUFFER_EMPTY in 001
+abbrev pub bufferEmpty : Column → Bool
+bufferEmpty Idle = true
+bufferEmpty Ready = true
+bufferEmpty Ident = true
+bufferEmpty Stby = true
+bufferEmpty Tran = true
+bufferEmpty Data = true
+bufferEmpty Rcv = true
+bufferEmpty Prg = false
+bufferEmpty Dis = false
+bufferEmpty Ina = true
 
 -- "Status in R1: error bits; 25 locked; 12..9 the state on reception, idle 0 to dis 8; bit 8 .."
 unfoldable pub wordOf : Errors → Bool → Column → ℕ
-wordOf errors locked on = shown errors + flag locked * 2 ^ 25 + (numberOf on * 2 ^ 9 + flag (readyOf on) * 2 ^ 8)
+wordOf errors locked on = shown errors + flag locked * 2 ^ 25 + (columnNumber on * 2 ^ 9 + flag (bufferEmpty on) * 2 ^ 8)

@@ -2,12 +2,12 @@
 // name, those that are pending, and the 32-bit word. No call has a `requires`: of any 32 bits only
 // the named error bits are ever shown.
 //
-// Offers: `ErrorBit`, `Fault`; `Errors`, `none`, `set`, `taken`, `pending`; `word`.
+// Offers: `ErrorBit`, `Fault`; `Errors`, `none`, `set`, `clear_command_bits`, `pending`; `word`.
 use states::Column;
 ghost use mathlib.Core.Path.{_≡_};
 ghost use Prim.Native.Nat.{_^_};
 ghost use Rattle.status.specs.ErrorBits.{placeOf};
-ghost use Rattle.status.specs.Status.{noErrors, withBit, takenOf, shown, flag, readyOf, wordOf};
+ghost use Rattle.status.specs.Status.{noErrors, withBit, commandBitsCleared, shown, flag, bufferEmpty, wordOf};
 
 // The error bits that document 01 uses, by the names of source document 001, from bit 31 down.
 pub enum ErrorBit {
@@ -78,8 +78,8 @@ pub fn set(errors: Errors, bit: ErrorBit) -> Errors
 }
 
 // What a taken command that answers no R1 leaves pending.
-pub fn taken(errors: Errors) -> Errors
-    ensures answer { λ r. ⌜ r ≡ takenOf errors ⌝ }
+pub fn clear_command_bits(errors: Errors) -> Errors
+    ensures answer { λ r. ⌜ r ≡ commandBitsCleared errors ⌝ }
 {
     Errors {
         bits: errors.bits & ALL_BUT_COMMAND_BITS,
@@ -99,9 +99,9 @@ fn bit_of(is: bool) -> u32
     if is { 1 } else { 0 }
 }
 
-// Bit 8: ready for data.
-fn ready(on: Column) -> bool
-    ensures { λ r. ⌜ r ≡ readyOf on ⌝ }
+// Bit 8, BUFFER_EMPTY in source document 001.
+fn buffer_empty(on: Column) -> bool
+    ensures { λ r. ⌜ r ≡ bufferEmpty on ⌝ }
 {
     match on {
         Column::Idle => true,
@@ -122,6 +122,6 @@ pub fn word(errors: Errors, locked: bool, on: Column) -> u32
     ensures answer { λ r. ⌜ r ≡ wordOf errors locked on ⌝ }
 {
     let state = states::number(on) as u32;
-    let low = state * 0x0200 + bit_of(ready(on)) * 0x0100;
+    let low = state * 0x0200 + bit_of(buffer_empty(on)) * 0x0100;
     pending(errors) + bit_of(locked) * 0x0200_0000 + low
 }

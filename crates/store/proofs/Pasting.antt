@@ -1,15 +1,18 @@
 -- Bytes written over others.
 --   part-turn   a part copied behind the part before it makes one longer part
 --   part-all    a part as long as the output is all of it
+--   over-part   as many bytes copied over a part as it has are written over the whole from the part's place on
 -- and what stands at each place after n bytes of s were written over d from a place on:
 --   under, over, past   before that place, in the n bytes, and behind them
 -- Assumes nothing.
 use mathlib.Core.Path.{_≡_, sym, ap, ap₂, _∙_}
-use mathlib.Core.List.{List, _++_, append-nil}
+use mathlib.Core.List.{List, _++_, append-assoc, append-nil}
 use Prim.Native.Nat.{ℕ, _+_, _-_, _≤_, _<_}
 use native.Mathlib.Omega.{arith}
-use lib.ListN.{length, take, drop, getD, length-drop, List·getD-append}
+use lib.ListN.{length, take, drop, getD, length-drop, drop-of-length-le, List·getD-append}
 use lib.Seq.{paste, take-paste, drop-paste, length-take-le, take-add, take-take, take-at, drop-length, drop-drop, drop-append-add, getD-take, getD-drop, getD-append-add}
+use Rattle.base.proofs.Copying.{copied-front}
+use Rattle.base.specs.Output.{copied}
 
 -- m is the memory, o the output and b the output with d bytes done, when k more come, which the code reckons as j
 pub part-turn : (m o b : List ℕ) (at d k j : ℕ) → j ≡ k → at + (d + k) ≤ length m → b ≡ take d (drop at m) ++ drop d o
@@ -36,6 +39,23 @@ part-all m o b at d e eb =
     ∙ ap (λ (i : ℕ). take i (drop at m) ++ drop i o) e
     ∙ ap (λ (x : List ℕ). take (length o) (drop at m) ++ x) (drop-length o)
     ∙ append-nil (take (length o) (drop at m))
+
+-- m is the memory, s the bytes, and l what the copy leaves of the part, whose length the code reckons as k
+pub over-part : (m s l : List ℕ) (at n k : ℕ) → length s ≡ n → k ≡ n → at + n ≤ length m → l ≡ copied s (take k (drop at m)) 0
+    → take at m ++ (l ++ drop k (drop at m)) ≡ paste m at s n
+over-part m s l at n k long ek h e =
+    let p : List ℕ = take n (drop at m) in
+    let lp : length p ≡ n = length-take-le n (drop at m) (omega (arith, length-drop at m)) in
+    let done : l ≡ take n s =
+    e
+    ∙ ap (λ (i : ℕ). copied s (take i (drop at m)) 0) ek
+    ∙ copied-front s p
+    ∙ ap₂ (λ (i : ℕ) (x : List ℕ). take i s ++ x) lp (drop-of-length-le p {i = length s} (omega arith))
+    ∙ append-nil (take n s)
+    in
+    ap₂ (λ (x : List ℕ) (i : ℕ). take at m ++ (x ++ drop i (drop at m))) done ek
+    ∙ sym (append-assoc (take at m) (take n s) (drop n (drop at m)))
+    ∙ ap (λ (x : List ℕ). take at m ++ take n s ++ x) (drop-drop n at m)
 
 module _ (d s : List ℕ) (at n : ℕ) (hd : at + n ≤ length d) (hs : n ≤ length s) where
   head : (p : ℕ) → p < at + n → getD (paste d at s n) p 0 ≡ getD (take at d ++ take n s) p 0

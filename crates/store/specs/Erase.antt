@@ -6,6 +6,7 @@ use mathlib.Core.List.{List}
 use Prim.Native.Nat.{ℕ, zero, suc, _/_, _≤_, _<_, min}
 use lib.ListN.{length, replicate}
 use Rattle.base.specs.Choice.{pick}
+use Rattle.base.specs.Sizes.{sectorSize}
 use Rattle.tags.specs.Tags.{taggedOf}
 use Rattle.tags.specs.declared.Tags.{Tags}
 use Rattle.store.specs.Map.{protectedIn}
@@ -13,11 +14,11 @@ use Rattle.store.specs.Memory.{sectorWritten}
 
 -- "An erased sector is 512 bytes of 0xFF"
 unfoldable pub erasedSector : List ℕ
-erasedSector = replicate 512 0xFF
+erasedSector = replicate sectorSize 0xFF
 
 -- the whole sectors of so many bytes, which have numbers of 32 bits
 abbrev pub sectorsIn : ℕ → ℕ
-sectorsIn bytes = min (bytes / 512) 4294967296
+sectorsIn bytes = min (bytes / sectorSize) 4294967296
 
 -- filled: tagged, and outside protection; spared: tagged, and protected
 abbrev pub filled : List ℕ → Tags → Bool → ℕ → Bool

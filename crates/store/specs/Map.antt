@@ -6,6 +6,7 @@ use Prim.Native.Nat.{ℕ, zero, suc, _+_, _*_, _/_}
 use lib.Dec.{eqb, leb}
 use lib.ListN.{length, getD, replicate, set}
 use Rattle.base.specs.Choice.{pick}
+use Rattle.base.specs.Sizes.{protectionGroupSize}
 
 -- each of the first n entries is 0 or 1
 unfoldable pub entriesRight : List ℕ → ℕ → Bool
@@ -18,9 +19,9 @@ mapRight map groups = eqb (length map) groups && entriesRight map (length map)
 
 -- 12: "lent memory or map differs in length from the card's, or a map entry is not 0 or 1"
 abbrev pub lentRight : ℕ → List ℕ → ℕ → Bool
-lentRight memory map groups = eqb memory (groups * 8192) && mapRight map groups
+lentRight memory map groups = eqb memory (groups * protectionGroupSize) && mapRight map groups
 
--- "protection group 8,192": the group of a sector, 16 sectors long
+-- the protection group of a sector: 16 sectors are one
 abbrev pub groupOf : ℕ → ℕ
 groupOf sector = sector / 16
 

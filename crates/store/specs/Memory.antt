@@ -7,6 +7,7 @@ use lib.Dec.{eqb, leb, ltb}
 use lib.ListN.{length, take, drop, replicate}
 use lib.Seq.{paste}
 use Rattle.base.specs.Choice.{pick}
+use Rattle.base.specs.Sizes.{sectorSize, protectionGroupSize}
 
 -- the card's contents: each byte of the lent memory, so that what is said of the contents is said of every lent byte
 abbrev pub contents : List ℕ → List ℕ
@@ -14,18 +15,18 @@ contents memory = memory
 
 -- "8,192 to 33,554,432 bytes, a multiple of 8,192"
 abbrev pub sizeAllowed : ℕ → Bool
-sizeAllowed bytes = leb 8192 bytes && leb bytes 33554432 && eqb (bytes % 8192) 0
+sizeAllowed bytes = leb protectionGroupSize bytes && leb bytes 33554432 && eqb (bytes % protectionGroupSize) 0
 
--- "Sector 512": whether a whole sector of this number lies in the contents, and its bytes
+-- whether a whole sector of this number lies in the contents, and its bytes
 abbrev pub holds : List ℕ → ℕ → Bool
-holds card sector = ltb sector (length card / 512)
+holds card sector = ltb sector (length card / sectorSize)
 
 abbrev pub sectorOf : List ℕ → ℕ → List ℕ
-sectorOf card sector = take 512 (drop (sector * 512) card)
+sectorOf card sector = take sectorSize (drop (sector * sectorSize) card)
 
--- a sector with 512 bytes written over it; what is no sector of the contents is left alone
+-- a sector with as many bytes written over it; what is no sector of the contents is left alone
 unfoldable pub sectorWritten : List ℕ → ℕ → List ℕ → List ℕ
-sectorWritten card sector bytes = pick (holds card sector) (paste card (sector * 512) bytes 512) card
+sectorWritten card sector bytes = pick (holds card sector) (paste card (sector * sectorSize) bytes sectorSize) card
 
 -- whether n bytes from a place on lie in the contents, and these bytes
 abbrev pub inside : List ℕ → ℕ → ℕ → Bool

@@ -2,8 +2,9 @@
 // to them goes through these calls. Sectors and protection groups go by their numbers; what does
 // not lie in the lent bytes is left alone, so no call has a `requires`.
 //
-// Offers: `size_allowed`, `map_right`, `lent_right`; `read_part`, `write_sector`, `erase`,
-// `fill_all`; `protected`, `protect`, `protection_bits`, `clear_map`.
+// Offers: `PROTECTION_GROUP`; `size_allowed`, `map_right`, `lent_right`; `read_part`,
+// `write_sector`, `erase`, `fill_all`; `protected`, `protect`, `protection_bits`, `clear_map`.
+use base::copy;
 use base::fill;
 use base::least;
 use tags::Kind;
@@ -13,23 +14,28 @@ ghost use mathlib.Core.Path.{_≡_};
 ghost use mathlib.Core.Bool.{_||_};
 ghost use Prim.Native.Nat.{_+_, _%_, _<_, _≤_};
 ghost use lib.ListN.{length};
-ghost use lib.Seq.{paste};
 ghost use Rattle.base.specs.Choice.{pick};
+ghost use Rattle.base.specs.Sizes.{sectorSize};
 ghost use Rattle.store.specs.Erase.{erasedSector, Spans, spared, sectorErased, erased, anySpared};
 ghost use Rattle.store.specs.Map.{entriesRight, mapRight, lentRight, protectedIn, groupSet, bitOf, protectionBits, mapCleared};
 ghost use Rattle.store.specs.Memory.{contents, sizeAllowed, inside, sectorWritten, partRead, allErased};
+
+// The sizes of document 01, as memory is counted.
+const SECTOR: usize = base::SECTOR as usize;
+
+pub const PROTECTION_GROUP: usize = base::PROTECTION_GROUP as usize;
 
 // Whether a memory may have this size.
 pub fn size_allowed(bytes: usize) -> bool
     ensures answer { λ r. ⌜ r ≡ sizeAllowed bytes ⌝ }
 {
-    if bytes < 8192 {
+    if bytes < PROTECTION_GROUP {
         return false;
     }
     if 33554432 < bytes {
         return false;
     }
-    bytes % 8192 == 0
+    bytes % PROTECTION_GROUP == 0
 }
 
 // Whether each entry is 0 or 1. Every entry is looked at, so that the loop has no second way out
@@ -62,10 +68,10 @@ pub fn map_right(map: &[u8], groups: usize) -> bool
 pub fn lent_right(memory: usize, map: &[u8], groups: usize) -> bool
     ensures answer { λ r. ⌜ r ≡ lentRight memory (now (map .entry)) groups ⌝ }
 {
-    if memory % 8192 != 0 {
+    if memory % PROTECTION_GROUP != 0 {
         return false;
     }
-    if memory / 8192 != groups {
+    if memory / PROTECTION_GROUP != groups {
         return false;
     }
     map_right(map, groups)
@@ -140,34 +146,25 @@ pub fn clear_map(map: &mut [u8])
     fill(map, 0);
 }
 
-// Bytes written over others.
-fn put(bytes: &mut [u8], at: usize, from: &[u8])
-    requires { ⌜ at + length (now from) ≤ length (now bytes) ⌝ }
-    ensures { λ _. ⌜ now (bytes .exit) ≡ paste (now (bytes .entry)) at (now (from .entry)) (length (now (from .entry))) ⌝ }
-{
-    let mut i: usize = 0;
-    while i < from.len() {
-        bytes[at + i] = from[i];
-        i += 1;
-    }
-}
-
 // A sector written, where the memory has it.
 pub fn write_sector(memory: &mut [u8], sector: u32, bytes: &[u8; 512])
     ensures memory { λ _. ⌜ contents (now (memory .exit)) ≡ sectorWritten (contents (now (memory .entry))) sector (now (bytes .entry)) ⌝ }
 {
     let number = sector as usize;
-    if number < memory.len() / 512 {
-        put(memory, number * 512, bytes);
+    if number < memory.len() / SECTOR {
+        let from = number * SECTOR;
+        let end = from + SECTOR;
+        // Lent the sector alone, the copy is of a length that the compiler knows.
+        copy(bytes, &mut memory[from..end], 0);
     }
 }
 
 // How many of n bytes from a place on lie in the sector of that place.
 fn piece(at: usize, n: usize) -> usize
     requires { ⌜ 0 < n ⌝ }
-    ensures { λ r. ⌜ (0 < r) × (r ≤ n) × (at % 512 + r ≤ 512) ⌝ }
+    ensures { λ r. ⌜ (0 < r) × (r ≤ n) × (at % sectorSize + r ≤ sectorSize) ⌝ }
 {
-    let room = 512 - at % 512;
+    let room = SECTOR - at % SECTOR;
     if n < room { n } else { room }
 }
 
@@ -189,7 +186,7 @@ pub fn read_part(memory: &[u8], at: usize, out: &mut [u8]) -> bool
         let from = at + done;
         let k = piece(from, n - done);
         let end = from + k;
-        put(out, done, &memory[from..end]);
+        copy(&memory[from..end], out, done);
         done += k;
     }
     true
@@ -261,7 +258,7 @@ pub fn erase(memory: &mut [u8], map: &[u8], tags: Tags, whole: bool) -> bool
     ensures memory { λ _. ⌜ contents (now (memory .exit)) ≡ erased (now (map .entry)) tags whole (contents (now (memory .entry))) ⌝ }
 {
     let blank = [0xFFu8; 512];
-    let sectors = least(memory.len() / 512, 4294967296);
+    let sectors = least(memory.len() / SECTOR, 4294967296);
     let span = reach(tags);
     let end = least(span.end, sectors);
     let mut sector = least(span.first, sectors);

@@ -13,18 +13,21 @@ use lib.ListN.{length, getD}
 use lib.Seq.{getD-set-other}
 use Rattle.base.specs.Choice.{pick}
 use Rattle.base.proofs.Cases.{cases, first, last}
-use Rattle.card.proofs.Outcomes.{WritesAt, one, many, InOutcome, unreads, refuses, stores, grants, forces, block-outcome}
+use Rattle.card.proofs.Outcomes.{WritesAt, one, many, askedOf, InOutcome, unreads, refuses, stores, grants, forces, block-outcome}
 use Rattle.card.specs.BlockIn.{blockRefused, blockGood, blockJudged, keptOf, storedBy, clearedBy}
 use Rattle.card.specs.Frame.{frameJudged, erasedBy, protectedBy}
 use Rattle.card.specs.Step.{memoryOf, mapOf}
 use Rattle.card.specs.declared.BlockJudged.{BlockJudged}
 use Rattle.card.specs.declared.Call.{Call}
 use Rattle.card.specs.declared.Call.the-variants.{Frame, BlockIn, BlockOut, WorkDone, PowerOn}
+use Rattle.card.specs.declared.Storing.the-variants.{All}
 use Rattle.command.specs.declared.Change.{Change}
+use Rattle.lock.specs.declared.Answer.the-variants.{Erased}
 use Rattle.made.proofs.Run.{kept-length}
-use Rattle.record.specs.Record.{csdProtects}
-use Rattle.record.specs.declared.Card.{Card}
+use Rattle.card_record.specs.Record.{csdProtects}
+use Rattle.card_record.specs.declared.Card.{Card}
 use Rattle.states.specs.declared.Incoming.{Incoming}
+use Rattle.states.specs.declared.Incoming.the-variants.{LockRequest}
 use Rattle.states.specs.declared.State.the-variants.{Rcv}
 use Rattle.store.specs.Erase.{sectorsIn, filled, erased}
 use Rattle.store.specs.Map.{protectedIn, groupSet}
@@ -32,7 +35,9 @@ use Rattle.store.proofs.Erased.{erased-byte, erased-past}
 use Rattle.store.proofs.Sectors.{written-elsewhere}
 use Rattle.tags.specs.Tags.{taggedOf}
 use Rattle.tags.specs.declared.Tags.{Tags}
-use Rattle.stored.specs.Changes.{AwaitsWrite, Cause, written, erased as by-tag, forced, MapCause, set}
+use Rattle.wire.specs.Blocks.{payloadOf}
+use Rattle.stored.specs.Changes.{AwaitsWrite, ForcedErase, Cause, written, erased as by-tag, forced, MapCause, set}
+use Rattle.stored.proofs.Requests.{asks-erase}
 use Rattle.stored.proofs.Commands.{FrameChange, nothing, protects, frees, erases, frame-change}
 
 -- a byte that an erase does not fill is as it was
@@ -48,17 +53,25 @@ awaits : (card : Card) {incoming : Incoming} {at : ℕ} → WritesAt incoming at
 awaits card (one at) e = inl e
 awaits card (many at) e = inr e
 
+-- a forced erase, from a lock request that is answered so
+pub forces-all : (card : Card) (input : List ℕ) (memory : ℕ) (map : List ℕ) → card .link .state ≡ Rcv LockRequest
+    → askedOf card input .answer ≡ Erased → blockJudged card input memory map .storing ≡ All → ForcedErase card BlockIn input memory map
+forces-all card input memory map on asked granted =
+    let byte = asks-erase (card .lock) (payloadOf input) (csdProtects (card .registers .csd)) asked in
+    record { called = refl; awaited = on; forced = byte .0; granted = granted }
+
 -- ---- memory
 module _ (card : Card) (input memory map : List ℕ) (p : ℕ) where
   abbrev Differs : List ℕ → Type 0
   Differs after = getD after p 0 ≡ getD memory p 0 → ⊥
 
-  frame-byte : {change : Change} → FrameChange card input (length memory) map change → frameJudged card input (length memory) map .change ≡ change
-      → Differs (erasedBy card memory map change) → Cause card Frame input (length memory) map (p / 512)
-  frame-byte nothing e d = absurd (d refl)
-  frame-byte (protects argument c l) e d = absurd (d refl)
-  frame-byte (frees argument c l) e d = absurd (d refl)
-  frame-byte (erases argument c l) e d =
+  frame-byte : (wins : Bool) {change : Change} → FrameChange card wins input (length memory) map change
+      → frameJudged card wins input (length memory) map .change ≡ change
+      → Differs (erasedBy card memory map change) → Cause card (Frame wins) input (length memory) map (p / 512)
+  frame-byte wins nothing e d = absurd (d refl)
+  frame-byte wins (protects argument c l) e d = absurd (d refl)
+  frame-byte wins (frees argument c l) e d = absurd (d refl)
+  frame-byte wins (erases argument c l) e d =
       let tags : Tags = card .link .tags in
       let whole : Bool = csdProtects (card .registers .csd) in
       cases (filled map tags whole (p / 512))
@@ -66,6 +79,7 @@ module _ (card : Card) (input memory map : List ℕ) (p : ℕ) where
       let tagged : Bool = taggedOf tags (p / 512) in
       let guarded : Bool = protectedIn map whole (p / 512) in
       by-tag (record {
+        wins = wins;
         called = refl;
         argument = argument;
         command = c;
@@ -87,11 +101,11 @@ module _ (card : Card) (input memory map : List ℕ) (p : ℕ) where
       (eqb-true (p / 512) (at / 512) t))
       (λ t. absurd (d (written-elsewhere memory (keptOf input) (at / 512) (kept-length input) p (eqb-false (p / 512) (at / 512) t))))
   block-byte (grants s a) e d = absurd (d refl)
-  block-byte (forces s a) e d = forced (record { called = refl; granted = ap (λ (j : BlockJudged). j .storing) e })
+  block-byte (forces s a) e d = forced (forces-all card input (length memory) map s a (ap (λ (j : BlockJudged). j .storing) e))
 
 pub memory-changes : (card : Card) (call : Call) (input memory map : List ℕ) (p : ℕ)
     → (getD (memoryOf card call input memory map) p 0 ≡ getD memory p 0 → ⊥) → Cause card call input (length memory) map (p / 512)
-memory-changes card Frame input memory map p d = frame-byte card input memory map p (frame-change card input (length memory) map) refl d
+memory-changes card (Frame wins) input memory map p d = frame-byte card input memory map p wins (frame-change card wins input (length memory) map) refl d
 memory-changes card BlockIn input memory map p d = block-byte card input memory map p (block-outcome card input (length memory) map) refl d
 memory-changes card BlockOut input memory map p d = absurd (d refl)
 memory-changes card WorkDone input memory map p d = absurd (d refl)
@@ -107,16 +121,16 @@ module _ (card : Card) (input : List ℕ) (memory : ℕ) (map : List ℕ) (group
       cases (eqb group at) (λ t. eqb-true group at t)
       (λ t. absurd (d (getD-set-other map at group (pick on 1 0) 0 (eqb-false group at t))))
 
-  frame-entry : {change : Change} → FrameChange card input memory map change → frameJudged card input memory map .change ≡ change
-      → MapDiffers (protectedBy map change) → MapCause card Frame input memory map group
-  frame-entry nothing e d = absurd (d refl)
-  frame-entry (protects argument c l) e d =
+  frame-entry : (wins : Bool) {change : Change} → FrameChange card wins input memory map change → frameJudged card wins input memory map .change ≡ change
+      → MapDiffers (protectedBy map change) → MapCause card (Frame wins) input memory map group
+  frame-entry wins nothing e d = absurd (d refl)
+  frame-entry wins (protects argument c l) e d =
       let g = addressed (argument / 8192) true d in
-      set (record { called = refl; argument = argument; addressed = g; taken = inl (c, rw g e) })
-  frame-entry (frees argument c l) e d =
+      set (record { wins = wins; called = refl; argument = argument; addressed = g; taken = inl (c, rw g e) })
+  frame-entry wins (frees argument c l) e d =
       let g = addressed (argument / 8192) false d in
-      set (record { called = refl; argument = argument; addressed = g; taken = inr (c, rw g e) })
-  frame-entry (erases argument c l) e d = absurd (d refl)
+      set (record { wins = wins; called = refl; argument = argument; addressed = g; taken = inr (c, rw g e) })
+  frame-entry wins (erases argument c l) e d = absurd (d refl)
 
   block-entry : {judged : BlockJudged} → InOutcome card input memory map judged → blockJudged card input memory map ≡ judged
       → MapDiffers (clearedBy map (judged .storing)) → MapCause card BlockIn input memory map group
@@ -125,11 +139,11 @@ module _ (card : Card) (input : List ℕ) (memory : ℕ) (map : List ℕ) (group
   block-entry (refuses incoming refusal fault s why) e d = absurd (d refl)
   block-entry (stores incoming at w s right) e d = absurd (d refl)
   block-entry (grants s a) e d = absurd (d refl)
-  block-entry (forces s a) e d = forced (record { called = refl; granted = ap (λ (j : BlockJudged). j .storing) e })
+  block-entry (forces s a) e d = forced (forces-all card input memory map s a (ap (λ (j : BlockJudged). j .storing) e))
 
 pub map-changes : (card : Card) (call : Call) (input : List ℕ) (memory : ℕ) (map : List ℕ) (group : ℕ)
     → (getD (mapOf card call input memory map) group 0 ≡ getD map group 0 → ⊥) → MapCause card call input memory map group
-map-changes card Frame input memory map group d = frame-entry card input memory map group (frame-change card input memory map) refl d
+map-changes card (Frame wins) input memory map group d = frame-entry card input memory map group wins (frame-change card wins input memory map) refl d
 map-changes card BlockIn input memory map group d = block-entry card input memory map group (block-outcome card input memory map) refl d
 map-changes card BlockOut input memory map group d = absurd (d refl)
 map-changes card WorkDone input memory map group d = absurd (d refl)

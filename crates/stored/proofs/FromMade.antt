@@ -19,15 +19,16 @@ use Rattle.card.specs.declared.Call.{Call}
 use Rattle.card.specs.declared.Outcome.the-variants.{Done}
 use Rattle.lock.proofs.Stored.{stored-length}
 use Rattle.made.specs.Made.{Waits, Awaits, Made}
-use Rattle.record.specs.Record.{sizeOf}
-use Rattle.record.specs.declared.Card.{Card}
+use Rattle.made.specs.Run.{World, outcomeOf}
+use Rattle.card_record.specs.Record.{sizeOf}
+use Rattle.card_record.specs.declared.Card.{Card}
 use Rattle.states.specs.declared.Incoming.{Incoming}
 use Rattle.states.specs.declared.Incoming.the-variants.{One, Many}
 use Rattle.states.specs.declared.State.the-variants.{Rcv}
 use Rattle.store.proofs.Sectors.{allowed-size}
 use Rattle.stored.specs.Changes.{AwaitsWrite, ForcedErase}
 use Rattle.stored.specs.Locked.{LockedCard, UnlockGranted}
-use Rattle.stored.specs.ReadBack.{World, blockIn, storedThenRead, storedStoppedThenRead, Awaiting, ReadsBack}
+use Rattle.stored.specs.ReadBack.{blockIn, storedThenRead, storedStoppedThenRead, Awaiting, ReadsBack}
 use Rattle.stored.proofs.Locked.{locked-keeps, unlocks-by-request}
 use Rattle.stored.proofs.ReadBack.{read-back, read-back-many}
 
@@ -61,9 +62,10 @@ module _ (card : Card) (made : Made card) where
       made-unlocks-only memory map room =
           unlocks-by-request card call input memory map room locked (omega (arith, made .lock .locked locked, stored-length (card .lock) (made .lock .bytes)))
 
-module _ (w : World) (block : List ℕ) (at : ℕ) (made : Made (w .card)) (room : 514 ≤ length (w .output)) (granted : blockIn w block .outcome ≡ Done) where
-  pub made-read-back : w .card .link .state ≡ Rcv (One at) → ReadsBack block (storedThenRead w block at)
-  made-read-back on = read-back w block at (made-awaiting (w .card) made at (inl on)) room on granted
+module _ (w : World) (block : List ℕ) (at : ℕ) (made : Made (w .card)) (output : List ℕ) (room : 514 ≤ length output)
+    (granted : outcomeOf w (blockIn block) ≡ Done) where
+  pub made-read-back : w .card .link .state ≡ Rcv (One at) → ReadsBack block (storedThenRead w block at) output
+  made-read-back on = read-back w block at (made-awaiting (w .card) made at (inl on)) output room on granted
 
-  pub made-read-back-many : w .card .link .state ≡ Rcv (Many at) → ReadsBack block (storedStoppedThenRead w block at)
-  made-read-back-many on = read-back-many w block at (made-awaiting (w .card) made at (inr on)) room on granted
+  pub made-read-back-many : w .card .link .state ≡ Rcv (Many at) → ReadsBack block (storedStoppedThenRead w block at) output
+  made-read-back-many on = read-back-many w block at (made-awaiting (w .card) made at (inr on)) output room on granted

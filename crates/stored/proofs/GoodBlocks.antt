@@ -17,22 +17,23 @@ use Rattle.card.specs.BlockIn.{blockGood, writeJudged, awaitedJudged, blockJudg
 use Rattle.card.specs.declared.BlockJudged.{BlockJudged}
 use Rattle.card.specs.declared.Outcome.the-variants.{Done}
 use Rattle.crc.specs.Crc.{crc16}
-use Rattle.record.specs.Record.{sizeOf}
+use Rattle.made.specs.Run.{World, outcomeOf, outputAfter}
+use Rattle.card_record.specs.Record.{sizeOf}
 use Rattle.states.specs.declared.Incoming.{Incoming}
 use Rattle.states.specs.declared.Incoming.the-variants.{One, Many}
 use Rattle.states.specs.declared.State.the-variants.{Rcv}
-use Rattle.wire.specs.Blocks.{blockOf, carried, told}
+use Rattle.wire.specs.Blocks.{blockOf, payloadOf, crcIn}
 use Rattle.wire.proofs.BlockTheorems.{long, good, check-after-write}
-use Rattle.stored.specs.ReadBack.{World, after, blockIn, storedThenRead, storedStoppedThenRead, Awaiting, Writable}
+use Rattle.stored.specs.ReadBack.{blockIn, blockOut, storedThenRead, storedStoppedThenRead, Awaiting, Writable}
 use Rattle.stored.proofs.ReadBack.{read-back, read-back-many}
 
 module _ (w : World) (payload : List ℕ) (at : ℕ) (sector : length payload ≡ 512) (writable : Writable w at) where
   block-long : length (blockOf payload) ≡ 514
   block-long = omega (arith, long payload)
 
-  crc-right : eqb (told (blockOf payload)) (crc16 (carried (blockOf payload))) ≡ true
+  crc-right : eqb (crcIn (blockOf payload)) (crc16 (payloadOf (blockOf payload))) ≡ true
   crc-right =
-      eq-eqb (told (blockOf payload)) (crc16 (carried (blockOf payload)))
+      eq-eqb (crcIn (blockOf payload)) (crc16 (payloadOf (blockOf payload)))
       (good (blockOf payload) (length payload) (check-after-write payload (omega arith) (omega arith)) .crc)
 
   in-memory : at / 512 < sizeOf (w .card .registers .groups) / 512
@@ -50,19 +51,18 @@ module _ (w : World) (payload : List ℕ) (at : ℕ) (sector : length payload �
   unfolding blockJudged
   reaches incoming state = rw (writable .lent, state)
 
-  pub good-granted : {incoming : Incoming} → WritesAt incoming at → w .card .link .state ≡ Rcv incoming → blockIn w (blockOf payload) .outcome ≡ Done
-  unfolding after
+  pub good-granted : {incoming : Incoming} → WritesAt incoming at → w .card .link .state ≡ Rcv incoming → outcomeOf w (blockIn (blockOf payload)) ≡ Done
   good-granted {incoming} writes state = ap (λ (j : BlockJudged). j .stepped .reply .outcome) (reaches incoming state) ∙ write-good writes
 
   payload-back : take 512 (blockOf payload) ≡ payload
   unfolding blockOf
   payload-back = take-at payload (crc16 payload / 256 ∷ crc16 payload % 256 ∷ []) 512 sector
 
-  module _ (awaiting : Awaiting (w .card) at) (room : 514 ≤ length (w .output)) where
-    pub write-read : w .card .link .state ≡ Rcv (One at) → take 514 (storedThenRead w (blockOf payload) at .output) ≡ blockOf payload
+  module _ (awaiting : Awaiting (w .card) at) (output : List ℕ) (room : 514 ≤ length output) where
+    pub write-read : w .card .link .state ≡ Rcv (One at) → take 514 (outputAfter (storedThenRead w (blockOf payload) at) (blockOut output)) ≡ blockOf payload
     write-read state =
-        read-back w (blockOf payload) at awaiting room state (good-granted (one at) state) .front ∙ ap blockOf payload-back
+        read-back w (blockOf payload) at awaiting output room state (good-granted (one at) state) .front ∙ ap blockOf payload-back
 
-    pub write-read-many : w .card .link .state ≡ Rcv (Many at) → take 514 (storedStoppedThenRead w (blockOf payload) at .output) ≡ blockOf payload
+    pub write-read-many : w .card .link .state ≡ Rcv (Many at) → take 514 (outputAfter (storedStoppedThenRead w (blockOf payload) at) (blockOut output)) ≡ blockOf payload
     write-read-many state =
-        read-back-many w (blockOf payload) at awaiting room state (good-granted (many at) state) .front ∙ ap blockOf payload-back
+        read-back-many w (blockOf payload) at awaiting output room state (good-granted (many at) state) .front ∙ ap blockOf payload-back

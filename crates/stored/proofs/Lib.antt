@@ -3,6 +3,7 @@ pub mod Commands
 pub mod FromMade
 pub mod GoodBlocks
 pub mod Locked
+pub mod LockedInUse
 pub mod Protected
 pub mod ReadBack
 pub mod Requests

@@ -17,18 +17,16 @@ use lib.Dec.{eqb}
 use lib.ListN.{length, getD}
 use Rattle.base.proofs.Cases.{cases, picked, clash, opposite}
 use Rattle.base.specs.Refusals.{by}
-use Rattle.card.proofs.Outcomes.{InOutcome, unreads, refuses, stores, grants, forces, OutOutcome, unsends, past, across, sends, FrameOutcome, unheard, damaged, commands, block-outcome, out-outcome, frame-outcome, told}
+use Rattle.card.proofs.Outcomes.{InOutcome, unreads, refuses, stores, grants, forces, FrameOutcome, unheard, damaged, commands, block-outcome, frame-outcome, told}
 use Rattle.card.specs.BlockIn.{blockRefused, blockGood, blockJudged}
-use Rattle.card.specs.BlockOut.{outRefused, outGood}
-use Rattle.card.specs.Frame.{metAlone, frameRefused, commanded, spares, frameJudged, frameOf, erasedBy, protectedBy}
+use Rattle.card.specs.Frame.{frameRefused, commanded, spares, frameJudged, frameStepped, erasedBy, protectedBy}
 use Rattle.card.specs.Step.{stepOf, memoryOf, mapOf}
 use Rattle.card.specs.declared.BlockJudged.{BlockJudged}
 use Rattle.card.specs.declared.Call.{Call}
 use Rattle.card.specs.declared.Call.the-variants.{Frame, BlockIn, BlockOut, WorkDone, PowerOn}
 use Rattle.card.specs.declared.FrameJudged.{FrameJudged}
-use Rattle.card.specs.declared.OutJudged.{OutJudged}
 use Rattle.card.specs.declared.Stepped.{Stepped}
-use Rattle.command.specs.Command.{damagedLink}
+use Rattle.command.specs.Command.{metBy, damagedLink}
 use Rattle.command.specs.Obey.{passesLock}
 use Rattle.command.specs.declared.Change.{Change}
 use Rattle.command.specs.declared.Change.the-variants.{Nothing, Protect, Erase}
@@ -39,52 +37,54 @@ use Rattle.lock.specs.declared.Answer.the-variants.{Granted}
 use Rattle.lock.specs.declared.Lock.{Lock}
 use Rattle.lock.specs.declared.Requested.{Requested}
 use Rattle.lock.proofs.Carried.{presented-parts}
+use Rattle.made.proofs.Kept.{KeepsLock, lock-kept}
+use Rattle.made.proofs.Took.{Took, stopped, reset, obeyed, took}
 use Rattle.moves.specs.Classes.{classOf}
-use Rattle.record.specs.Power.{poweredOn, worked}
-use Rattle.record.specs.Record.{csdProtects, withLink}
-use Rattle.record.specs.declared.Card.{Card}
-use Rattle.record.specs.declared.Link.{Link}
-use Rattle.states.specs.States.{columnOf, numberOf}
-use Rattle.wire.specs.Blocks.{carried as payloadOf}
-use Rattle.wire.specs.Frames.{frameOf as readOf}
+use Rattle.card_record.specs.Power.{poweredOn}
+use Rattle.card_record.specs.Record.{csdProtects, withLink}
+use Rattle.card_record.specs.declared.Card.{Card}
+use Rattle.card_record.specs.declared.Link.{Link}
+use Rattle.states.specs.States.{columnOf, columnNumber}
+use Rattle.wire.specs.Blocks.{payloadOf}
+use Rattle.wire.specs.Frames.{frameOf}
 use Rattle.wire.specs.declared.Frame.the-variants.{Command}
 use Rattle.stored.specs.Changes.{SetBy, ForcedErase, Cause, written, erased, forced, MapCause, set}
 use Rattle.stored.specs.Locked.{LockedCard, UnlockGranted, Unlocking, none-stored, unlocked, Unmoved}
 use Rattle.stored.specs.Locked.{forced as by-force}
-use Rattle.stored.proofs.Changes.{memory-changes, map-changes}
-use Rattle.stored.proofs.Commands.{Took, stopped, reset, obeyed, took, FrameChange, nothing, protects, frees, erases, frame-change}
+use Rattle.stored.proofs.Changes.{forces-all, memory-changes, map-changes}
+use Rattle.stored.proofs.Commands.{FrameChange, nothing, protects, frees, erases, frame-change}
 use Rattle.stored.proofs.Requests.{Asks, fails, unlocks, others, erases as erased-all, asks}
 
 -- ---- memory and map
-module _ (card : Card) (frame : List ℕ) (memory : ℕ) (map : List ℕ) where
-  changer : {change : Change} → FrameChange card frame memory map change → (change ≡ Nothing → ⊥) → card .lock .locked ≡ false
+module _ (card : Card) (wins : Bool) (frame : List ℕ) (memory : ℕ) (map : List ℕ) where
+  changer : {change : Change} → FrameChange card wins frame memory map change → (change ≡ Nothing → ⊥) → card .lock .locked ≡ false
   changer nothing ne = absurd (ne refl)
   changer (protects argument e l) ne = l
   changer (frees argument e l) ne = l
   changer (erases argument e l) ne = l
 
   -- a frame that changes something lent came to an unlocked card
-  pub changed-unlocked : (change : Change) → frameJudged card frame memory map .change ≡ change → (change ≡ Nothing → ⊥) → card .lock .locked ≡ false
-  changed-unlocked change e ne = changer (frame-change card frame memory map) (λ n. ne (sym e ∙ n))
+  pub changed-unlocked : (change : Change) → frameJudged card wins frame memory map .change ≡ change → (change ≡ Nothing → ⊥) → card .lock .locked ≡ false
+  changed-unlocked change e ne = changer (frame-change card wins frame memory map) (λ n. ne (sym e ∙ n))
 
 module _ (card : Card) (locked : LockedCard card) (call : Call) (input : List ℕ) where
   memory-cause : (memory : ℕ) (map : List ℕ) (sector : ℕ) → Cause card call input memory map sector → ForcedErase card call input memory map
   memory-cause memory map sector (written at w e) = absurd (locked .no-write at (w .awaited))
   memory-cause memory map sector (erased t) =
       opposite (card .lock .locked) (locked .locked)
-      (changed-unlocked card input memory map Erase (t .taken) (λ e. clash cc))
+      (changed-unlocked card (t .wins) input memory map Erase (t .taken) (λ e. clash cc))
   memory-cause memory map sector (forced f) = f
 
-  set-unlocked : (memory : ℕ) (map : List ℕ) (group : ℕ) (on : Bool) → frameJudged card input memory map .change ≡ Protect group on → card .lock .locked ≡ false
-  set-unlocked memory map group on t = changed-unlocked card input memory map (Protect group on) t (λ e. clash cc)
+  set-unlocked : (wins : Bool) (memory : ℕ) (map : List ℕ) (group : ℕ) (on : Bool) → frameJudged card wins input memory map .change ≡ Protect group on → card .lock .locked ≡ false
+  set-unlocked wins memory map group on t = changed-unlocked card wins input memory map (Protect group on) t (λ e. clash cc)
 
-  either-set : (memory : ℕ) (map : List ℕ) (argument group : ℕ)
-      → SetBy card call input memory map 28 true argument group ⊎ SetBy card call input memory map 29 false argument group → card .lock .locked ≡ false
-  either-set memory map argument group (inl t) = set-unlocked memory map group true (t .1)
-  either-set memory map argument group (inr t) = set-unlocked memory map group false (t .1)
+  either-set : (wins : Bool) (memory : ℕ) (map : List ℕ) (argument group : ℕ)
+      → SetBy card call input memory map wins 28 true argument group ⊎ SetBy card call input memory map wins 29 false argument group → card .lock .locked ≡ false
+  either-set wins memory map argument group (inl t) = set-unlocked wins memory map group true (t .1)
+  either-set wins memory map argument group (inr t) = set-unlocked wins memory map group false (t .1)
 
   map-cause : (memory : ℕ) (map : List ℕ) (group : ℕ) → MapCause card call input memory map group → ForcedErase card call input memory map
-  map-cause memory map group (set s) = opposite (card .lock .locked) (locked .locked) (either-set memory map (s .argument) group (s .taken))
+  map-cause memory map group (set s) = opposite (card .lock .locked) (locked .locked) (either-set (s .wins) memory map (s .argument) group (s .taken))
   map-cause memory map group (forced f) = f
 
   pub locked-keeps : (memory map : List ℕ) (p : ℕ)
@@ -124,43 +124,25 @@ module _ (card : Card) (input : List ℕ) (memory : ℕ) (map : List ℕ) (locke
         password = x .1;
         granted = λ room. ap (λ (j : BlockJudged). j .stepped .reply .outcome) is;
       })
-  block-unlocks (forces s a) is e = by-force (record { called = refl; granted = ap (λ (j : BlockJudged). j .storing) is })
-
--- a block out and a frame leave the lock as it is
-module _ (card : Card) where
-  out-lock : {judged : OutJudged} → OutOutcome card judged → judged .stepped .card .lock ≡ card .lock
-  unfolding outRefused outGood
-  out-lock (unsends n listed) = refl
-  out-lock (past outgoing on) = refl
-  out-lock (across outgoing on) = refl
-  out-lock (sends outgoing next n sending on within) = refl
-
-  framed-lock : (frame : List ℕ) (memory : ℕ) (map : List ℕ) {judged : FrameJudged} → FrameOutcome card frame memory map judged
-      → judged .stepped .card .lock ≡ card .lock
-  framed-lock frame memory map (unheard n listed) = refl
-  framed-lock frame memory map damaged = refl
-  framed-lock frame memory map (commands index argument e l) = refl
-
-  frame-lock : (frame : List ℕ) (memory : ℕ) (map : List ℕ) → frameOf card frame memory map .card .lock ≡ card .lock
-  unfolding frameOf
-  frame-lock frame memory map =
-      let same = framed-lock frame memory map (frame-outcome card frame memory map) in
-      told (λ (s : Stepped). s .card .lock ≡ card .lock) (frameJudged card frame memory map .stepped)
-      (spares card memory map (frameJudged card frame memory map .change)) same same
+  block-unlocks (forces s a) is e = by-force (forces-all card input memory map s a (ap (λ (j : BlockJudged). j .storing) is))
 
 none : (lock : Lock) → poweredOf lock .locked ≡ false → length (stored lock) ≡ 0
 unfolding poweredOf
 none lock e = omega (arith, leb-false 1 (length (stored lock)) e)
 
+-- a call that keeps the lock leaves a locked card locked
+kept-locked : {P : Type 0} (card : Card) (call : Call) → KeepsLock card call → (input : List ℕ) (memory : ℕ) (map : List ℕ) (room : ℕ)
+    → card .lock .locked ≡ true → stepOf card call input memory map room .card .lock .locked ≡ false → P
+kept-locked card call keeps input memory map room l e =
+    opposite (card .lock .locked) l (sym (ap (λ (x : Lock). x .locked) (lock-kept card call keeps input memory map room)) ∙ e)
+
 pub unlocks-only : (card : Card) (call : Call) (input : List ℕ) (memory : ℕ) (map : List ℕ) (room : ℕ) → card .lock .locked ≡ true
     → stepOf card call input memory map room .card .lock .locked ≡ false → Unlocking card call input memory map
-unfolding worked poweredOn
-unlocks-only card Frame input memory map room l e =
-    opposite (card .lock .locked) l (sym (ap (λ (x : Lock). x .locked) (frame-lock card input memory map)) ∙ e)
+unfolding poweredOn
+unlocks-only card (Frame wins) input memory map room l e = kept-locked card (Frame wins) tt input memory map room l e
 unlocks-only card BlockIn input memory map room l e = block-unlocks card input memory map l (block-outcome card input memory map) refl e
-unlocks-only card BlockOut input memory map room l e =
-    opposite (card .lock .locked) l (sym (ap (λ (x : Lock). x .locked) (out-lock card (out-outcome card memory map room))) ∙ e)
-unlocks-only card WorkDone input memory map room l e = opposite (card .lock .locked) l e
+unlocks-only card BlockOut input memory map room l e = kept-locked card BlockOut tt input memory map room l e
+unlocks-only card WorkDone input memory map room l e = kept-locked card WorkDone tt input memory map room l e
 unlocks-only card PowerOn input memory map room l e = none-stored refl (none (card .lock) e)
 
 -- a card with a password, as every locked card that was made has one
@@ -175,7 +157,7 @@ unlocks-by-request card call input memory map room l some e = by-reason (unlocks
     by-reason (unlocked u) = inr u
 
 -- ---- commands
-module _ (card : Card) (frame : List ℕ) (memory : ℕ) (map : List ℕ) (index argument : ℕ) where
+module _ (card : Card) (wins : Bool) (frame : List ℕ) (memory : ℕ) (map : List ℕ) (index argument : ℕ) where
   -- nothing but error bits and tags changes
   pub record Held (judged : FrameJudged) : Type 0 where
     pub state : judged .stepped .card .link .state ≡ card .link .state
@@ -184,7 +166,7 @@ module _ (card : Card) (frame : List ℕ) (memory : ℕ) (map : List ℕ) (index
     pub change : judged .change ≡ Nothing
 
   module _ (locked : card .lock .locked ≡ true) (stops : passesLock true index ≡ false) where
-    took-held : {given : Commanded} → Took (card .link) (metAlone card) index argument given → Held (commanded card given)
+    took-held : {given : Commanded} → Took (card .link) (metBy card wins) index argument given → Held (commanded card given)
     unfolding classOf
     took-held (stopped tags errors sent) = record { state = refl; address = refl; length-kept = refl; change = refl }
     took-held (reset z) = opposite true refl (rw z at stops)
@@ -194,25 +176,25 @@ module _ (card : Card) (frame : List ℕ) (memory : ℕ) (map : List ℕ) (index
     damage-held : Held (frameRefused (withLink card (damagedLink (card .link))) (by 3))
     unfolding damagedLink
     damage-held =
-        picked (λ (l : Link). Held (frameRefused (withLink card l) (by 3))) (eqb (numberOf (columnOf (card .link .state))) 9)
+        picked (λ (l : Link). Held (frameRefused (withLink card l) (by 3))) (eqb (columnNumber (columnOf (card .link .state))) 9)
         (λ t. record { state = refl; address = refl; length-kept = refl; change = refl })
         (λ t. record { state = refl; address = refl; length-kept = refl; change = refl })
 
-    framed-held : {judged : FrameJudged} → FrameOutcome card frame memory map judged → readOf frame ≡ Command index argument → Held judged
+    framed-held : {judged : FrameJudged} → FrameOutcome card wins frame memory map judged → frameOf frame ≡ Command index argument → Held judged
     framed-held (unheard n listed) e = record { state = refl; address = refl; length-kept = refl; change = refl }
     framed-held damaged e = damage-held
     framed-held (commands i a c l) e =
         let ei : i ≡ index = cc in
         let ea : a ≡ argument = cc in
-        rw (ei, ea) (took-held (took (card .link) (metAlone card) index argument))
+        rw (ei, ea) (took-held (took (card .link) (metBy card wins) index argument))
 
-module _ (card : Card) (frame memory map : List ℕ) (room index argument : ℕ) (locked : card .lock .locked ≡ true) (is : readOf frame ≡ Command index argument) where
-  pub held-back : passesLock true index ≡ false → Unmoved card frame memory map room
-  unfolding frameOf
+module _ (card : Card) (wins : Bool) (frame memory map : List ℕ) (room index argument : ℕ) (locked : card .lock .locked ≡ true) (is : frameOf frame ≡ Command index argument) where
+  pub held-back : passesLock true index ≡ false → Unmoved card wins frame memory map room
+  unfolding frameStepped
   held-back stops =
-      let judged : FrameJudged = frameJudged card frame (length memory) map in
+      let judged : FrameJudged = frameJudged card wins frame (length memory) map in
       let spared : Bool = spares card (length memory) map (judged .change) in
-      let held = framed-held card frame (length memory) map index argument locked stops (frame-outcome card frame (length memory) map) is in
+      let held = framed-held card wins frame (length memory) map index argument locked stops (frame-outcome card wins frame (length memory) map) is in
       record {
         state = told (λ (s : Stepped). s .card .link .state ≡ card .link .state) (judged .stepped) spared (held .state) (held .state);
         address = told (λ (s : Stepped). s .card .link .address ≡ card .link .address) (judged .stepped) spared (held .address) (held .address);
@@ -221,5 +203,5 @@ module _ (card : Card) (frame memory map : List ℕ) (room index argument : ℕ)
         map-kept = ap (protectedBy map) (held .change);
       }
 
-  pub let-through : (Unmoved card frame memory map room → ⊥) → passesLock true index ≡ true
+  pub let-through : (Unmoved card wins frame memory map room → ⊥) → passesLock true index ≡ true
   let-through moved = cases (passesLock true index) (λ t. t) (λ t. absurd (moved (held-back t)))

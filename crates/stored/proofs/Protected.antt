@@ -21,19 +21,17 @@ use Rattle.card.specs.declared.BlockJudged.{BlockJudged}
 use Rattle.card.specs.declared.Call.{Call}
 use Rattle.card.specs.declared.Outcome.the-variants.{Done}
 use Rattle.card.specs.declared.Storing.the-variants.{All}
-use Rattle.lock.specs.declared.Answer.the-variants.{Erased}
-use Rattle.lock.specs.declared.Requested.{Requested}
 use Rattle.made.proofs.Run.{memory-length}
-use Rattle.record.specs.Record.{csdProtects}
-use Rattle.record.specs.declared.Card.{Card}
+use Rattle.card_record.specs.Record.{csdProtects}
+use Rattle.card_record.specs.declared.Card.{Card}
 use Rattle.states.specs.declared.Incoming.{Incoming}
 use Rattle.states.specs.declared.Incoming.the-variants.{LockRequest}
 use Rattle.states.specs.declared.State.the-variants.{Rcv}
 use Rattle.store.specs.Map.{protectedIn}
-use Rattle.wire.specs.Blocks.{carried}
+use Rattle.wire.specs.Blocks.{payloadOf}
 use Rattle.stored.specs.Changes.{AwaitsWrite, ProtectedByte, ForcedErase, Cause, written, erased, forced}
 use Rattle.stored.proofs.Changes.{memory-changes}
-use Rattle.stored.proofs.Requests.{Asks, fails, unlocks, others, erases, asks}
+use Rattle.stored.proofs.Requests.{asks-erase}
 
 -- ---- what is granted
 module _ (card : Card) (at : ℕ) where
@@ -63,20 +61,14 @@ module _ (card : Card) (block : List ℕ) (memory : ℕ) (map : List ℕ) where
   abbrev Locked : Type 0
   Locked = (csdProtects (card .registers .csd) ≡ false) × (card .lock .locked ≡ true)
 
-  request-locked : {requested : Requested} → Asks (card .lock) (carried block) (csdProtects (card .registers .csd)) requested
-      → requested .answer ≡ Erased → Locked
-  request-locked fails e = clash cc
-  request-locked (unlocks b l p) e = clash cc
-  request-locked (others next l) e = clash cc
-  request-locked (erases b l p) e = (p, l)
-
   all-locked : {judged : BlockJudged} → InOutcome card block memory map judged → judged .storing ≡ All → Locked
   unfolding blockRefused blockGood
   all-locked (unreads n listed) e = clash cc
   all-locked (refuses incoming refusal fault s why) e = clash cc
   all-locked (stores incoming at w s right) e = clash cc
   all-locked (grants s a) e = clash cc
-  all-locked (forces s a) e = request-locked (asks (card .lock) (carried block) (csdProtects (card .registers .csd))) a
+  all-locked (forces s a) e =
+      let asked = asks-erase (card .lock) (payloadOf block) (csdProtects (card .registers .csd)) a in (asked .1 .1, asked .1 .0)
 
   pub forced-locked : (call : Call) → ForcedErase card call block memory map → (csdProtects (card .registers .csd) ≡ false) × (card .lock .locked ≡ true)
   forced-locked call f = all-locked (block-outcome card block memory map) (f .granted)

@@ -15,7 +15,6 @@ use Rattle.base.proofs.Cases.{clash, first}
 use Rattle.card.proofs.Outcomes.{WritesAt, one, many, only, Storable, InOutcome, unreads, refuses, stores, grants, forces, block-outcome}
 use Rattle.card.specs.BlockIn.{afterStored, blockRefused, blockGood, blockJudged, keptOf, storedBy, clearedBy}
 use Rattle.card.specs.BlockOut.{partJudged, outGood, outJudged, partSent, sentOut}
-use Rattle.card.specs.Frame.{metAlone}
 use Rattle.card.specs.declared.BlockJudged.{BlockJudged}
 use Rattle.card.specs.declared.Call.the-variants.{WorkDone}
 use Rattle.card.specs.declared.OutJudged.{OutJudged}
@@ -23,13 +22,14 @@ use Rattle.card.specs.declared.Outcome.the-variants.{Done, Wrote}
 use Rattle.card.specs.declared.Sending.the-variants.{Part}
 use Rattle.card.specs.declared.Stepped.{Stepped}
 use Rattle.card.specs.declared.Storing.the-variants.{Sector}
-use Rattle.command.specs.Command.{commandOf}
+use Rattle.command.specs.Command.{metBy, commandOf}
 use Rattle.crc.specs.Crc.{crc16}
 use Rattle.demands.proofs.Frames.{unlent}
 use Rattle.made.proofs.Run.{kept-length}
-use Rattle.record.specs.Power.{workedState, worked}
-use Rattle.record.specs.Record.{sizeOf}
-use Rattle.record.specs.declared.Card.{Card}
+use Rattle.made.specs.Run.{World, given, next, outcomeOf, outputAfter}
+use Rattle.card_record.specs.Power.{workedState, worked}
+use Rattle.card_record.specs.Record.{sizeOf}
+use Rattle.card_record.specs.declared.Card.{Card}
 use Rattle.states.specs.declared.Incoming.{Incoming}
 use Rattle.states.specs.declared.Incoming.the-variants.{One, Many, LockRequest}
 use Rattle.states.specs.declared.Outgoing.the-variants.{One as OneOut}
@@ -41,7 +41,7 @@ use Rattle.store.proofs.Sectors.{written-length, read-back as sector-back}
 use Rattle.wire.specs.Blocks.{blockOf}
 use Rattle.wire.specs.Frames.{commandFrame}
 use Rattle.wire.proofs.FrameTheorems.{read-after-write}
-use Rattle.stored.specs.ReadBack.{World, after, commanded, blockIn, readAgain, storedThenRead, storedStoppedThenRead, Awaiting, ReadsBack}
+use Rattle.stored.specs.ReadBack.{commanded, blockIn, blockOut, readAgain, storedThenRead, storedStoppedThenRead, Awaiting, ReadsBack}
 use Rattle.stored.proofs.Runs.{Leaves, leaves-12, leaves-16, leaves-17}
 
 -- ---- the block in
@@ -66,7 +66,7 @@ module _ (card : Card) (block : List ℕ) (memory : ℕ) (map : List ℕ) (incom
   stored-as (forces s a) d = no-write w (cc)
 
 -- ---- the run
-module _ (groups : ℕ) (memory map output : List ℕ) (lent : lentRight (length memory) map groups ≡ true) where
+module _ (groups : ℕ) (memory map : List ℕ) (lent : lentRight (length memory) map groups ≡ true) where
   -- an unlocked card in this state, lent the same all the way
   record Holds (state : State) (w : World) : Type 0 where
     groups-are : w .card .registers .groups ≡ groups
@@ -74,18 +74,17 @@ module _ (groups : ℕ) (memory map output : List ℕ) (lent : lentRight (length
     state-is : w .card .link .state ≡ state
     memory-is : w .memory ≡ memory
     map-is : w .map ≡ map
-    output-is : w .output ≡ output
 
   lent-to : (w : World) {state : State} → Holds state w → lentRight (length (w .memory)) (w .map) (w .card .registers .groups) ≡ true
   lent-to w h = rw (h .memory-is, h .map-is, h .groups-are) lent
 
   by-frame : (w : World) {from : State} (there : State) (n index argument : ℕ) → Holds from w → index < 64 → argument < 2 ^ 32
-      → Leaves there n (commandOf (w .card .link) (metAlone (w .card)) index argument)
+      → Leaves there n (commandOf (w .card .link) (metBy (w .card) true) index argument)
       → Holds there (commanded w index argument) × (commanded w index argument .card .link .length ≡ n)
-  unfolding after
+  unfolding next
   by-frame w there n index argument h hi ha l =
       let u =
-      unlent (w .card) (commandFrame index argument) (w .memory) (w .map) (w .output) index argument
+      unlent (w .card) true (commandFrame index argument) (w .memory) (w .map) [] index argument
       (record { lent = lent-to w h; command = read-after-write index argument hi ha }) (l .unchanged)
       in (
         record {
@@ -94,13 +93,12 @@ module _ (groups : ℕ) (memory map output : List ℕ) (lent : lentRight (length
           state-is = ap (λ (s : Stepped). s .card .link .state) (u .step) ∙ l .state-is;
           memory-is = u .memory-kept ∙ h .memory-is;
           map-is = u .map-kept ∙ h .map-is;
-          output-is = u .output-kept ∙ h .output-is;
         },
         ap (λ (s : Stepped). s .card .link .length) (u .step) ∙ l .length-is,
       )
 
-  by-work : (w : World) → Holds Prg w → Holds Tran (after w WorkDone [])
-  unfolding after worked
+  by-work : (w : World) → Holds Prg w → Holds Tran (next w (given WorkDone []))
+  unfolding next worked
   by-work w h =
       record {
         groups-are = h .groups-are;
@@ -108,10 +106,9 @@ module _ (groups : ℕ) (memory map output : List ℕ) (lent : lentRight (length
         state-is = ap workedState (h .state-is);
         memory-is = h .memory-is;
         map-is = h .map-is;
-        output-is = h .output-is;
       }
 
-  module _ (at : ℕ) (in-range : at + 512 ≤ sizeOf groups) (aligned : at % 512 ≡ 0) (small : at < 2 ^ 32) (room : 514 ≤ length output) where
+  module _ (at : ℕ) (in-range : at + 512 ≤ sizeOf groups) (aligned : at % 512 ≡ 0) (small : at < 2 ^ 32) (output : List ℕ) (room : 514 ≤ length output) where
     -- what goes out of a card in data
     out-judged : (card : Card) → card .registers .groups ≡ groups → card .link .state ≡ Data (OneOut at) → card .link .length ≡ 512
         → outJudged card (length memory) map (length output) ≡ outGood card Tran 512 (Part at 512)
@@ -133,10 +130,11 @@ module _ (groups : ℕ) (memory map output : List ℕ) (lent : lentRight (length
     whole : at + 512 ≤ length memory
     whole = omega (arith, eqb-true (length memory) (groups * 8192) (first (eqb (length memory) (groups * 8192)) (mapRight map groups) lent))
 
-    again : (w : World) → Holds Prg w → (readAgain w at .outcome ≡ Wrote 514) × (take 514 (readAgain w at .output) ≡ blockOf (partOf memory at 512))
-    unfolding readAgain after outGood
+    again : (w : World) → Holds Prg w
+        → (outcomeOf (readAgain w at) (blockOut output) ≡ Wrote 514) × (take 514 (outputAfter (readAgain w at) (blockOut output)) ≡ blockOf (partOf memory at 512))
+    unfolding readAgain outGood
     again w h =
-        let w1 : World = after w WorkDone [] in
+        let w1 : World = next w (given WorkDone []) in
         let h1 : Holds Tran w1 = by-work w h in
         let w2 : World = commanded w1 16 512 in
         let h2 = by-frame w1 Tran 512 16 512 h1 (omega arith) (omega arith) (leaves-16 (w1 .card) (h1 .unlocked) (h1 .state-is)) in
@@ -146,12 +144,12 @@ module _ (groups : ℕ) (memory map output : List ℕ) (lent : lentRight (length
         by-frame w2 (Data (OneOut at)) 512 17 at (h2 .0) (omega arith) small
         (leaves-17 (w2 .card) (h2 .0 .unlocked) at reach aligned (h2 .0 .state-is) (h2 .1))
         in
-        let sent : outJudged (w3 .card) (length (w3 .memory)) (w3 .map) (length (w3 .output)) ≡ outGood (w3 .card) Tran 512 (Part at 512) =
-        rw (h3 .0 .memory-is, h3 .0 .map-is, h3 .0 .output-is) (out-judged (w3 .card) (h3 .0 .groups-are) (h3 .0 .state-is) (h3 .1))
+        let sent : outJudged (w3 .card) (length (w3 .memory)) (w3 .map) (length output) ≡ outGood (w3 .card) Tran 512 (Part at 512) =
+        rw (h3 .0 .memory-is, h3 .0 .map-is) (out-judged (w3 .card) (h3 .0 .groups-are) (h3 .0 .state-is) (h3 .1))
         in (
           ap (λ (j : OutJudged). j .stepped .reply .outcome) sent,
-          ap (λ (j : OutJudged). take 514 (sentOut (w3 .memory) (w3 .map) (w3 .output) (j .sending))) sent
-              ∙ rw (h3 .0 .memory-is, h3 .0 .output-is) (sent-front whole),
+          ap (λ (j : OutJudged). take 514 (sentOut (w3 .memory) (w3 .map) output (j .sending))) sent
+              ∙ rw (h3 .0 .memory-is) (sent-front whole),
         )
 
 -- ---- the theorems
@@ -159,13 +157,12 @@ kept-is : (block : List ℕ) → length block ≡ 514 → keptOf block ≡ take 
 unfolding keptOf
 kept-is block long = rw long (append-nil (take 512 block))
 
-module _ (w : World) (block : List ℕ) (at : ℕ) (awaiting : Awaiting (w .card) at) (room : 514 ≤ length (w .output)) where
+module _ (w : World) (block : List ℕ) (at : ℕ) (awaiting : Awaiting (w .card) at) (output : List ℕ) (room : 514 ≤ length output) where
   abbrev after-memory : List ℕ
   after-memory = sectorWritten (w .memory) (at / 512) (keptOf block)
 
-  module _ (incoming : Incoming) (writes : WritesAt incoming at) (state : w .card .link .state ≡ Rcv incoming) (granted : blockIn w block .outcome ≡ Done) where
+  module _ (incoming : Incoming) (writes : WritesAt incoming at) (state : w .card .link .state ≡ Rcv incoming) (granted : outcomeOf w (blockIn block) ≡ Done) where
     judged : Stored (w .card) incoming at block (length (w .memory)) (w .map) (blockJudged (w .card) block (length (w .memory)) (w .map))
-    unfolding after
     judged = stored-as (w .card) block (length (w .memory)) (w .map) incoming at writes state (block-outcome (w .card) block (length (w .memory)) (w .map)) granted
 
     -- a block that was granted lies in memory
@@ -175,8 +172,8 @@ module _ (w : World) (block : List ℕ) (at : ℕ) (awaiting : Awaiting (w .card
     still-lent : lentRight (length after-memory) (w .map) (w .card .registers .groups) ≡ true
     still-lent = rw (written-length (w .memory) (keptOf block) (at / 512) (kept-length block)) (judged .storable .lent)
 
-    stored-holds : Holds (w .card .registers .groups) after-memory (w .map) (w .output) still-lent (afterStored incoming (at / 512 * 512 + 512)) (blockIn w block)
-    unfolding after blockGood
+    stored-holds : Holds (w .card .registers .groups) after-memory (w .map) still-lent (afterStored incoming (at / 512 * 512 + 512)) (next w (blockIn block))
+    unfolding next blockGood
     stored-holds =
         let e = judged .is in
         record {
@@ -185,7 +182,6 @@ module _ (w : World) (block : List ℕ) (at : ℕ) (awaiting : Awaiting (w .card
           state-is = ap (λ (j : BlockJudged). j .stepped .card .link .state) e;
           memory-is = ap (λ (j : BlockJudged). storedBy (keptOf block) (w .memory) (j .storing)) e;
           map-is = ap (λ (j : BlockJudged). clearedBy (w .map) (j .storing)) e;
-          output-is = refl;
         }
 
     -- the part that goes out is the block's 512 bytes
@@ -200,23 +196,23 @@ module _ (w : World) (block : List ℕ) (at : ℕ) (awaiting : Awaiting (w .card
         ∙ sector-back (w .memory) (keptOf block) (at / 512) (kept-length block) (omega (arith, in-memory))
         ∙ kept-is block (judged .storable .long)
 
-    reads : (v : World) → Holds (w .card .registers .groups) after-memory (w .map) (w .output) still-lent Prg v → ReadsBack block (readAgain v at)
+    reads : (v : World) → Holds (w .card .registers .groups) after-memory (w .map) still-lent Prg v → ReadsBack block (readAgain v at) output
     reads v h =
         let r =
-        again (w .card .registers .groups) after-memory (w .map) (w .output) still-lent at in-memory (awaiting .aligned) (awaiting .small) room v h
+        again (w .card .registers .groups) after-memory (w .map) still-lent at in-memory (awaiting .aligned) (awaiting .small) output room v h
         in
         record { wrote = r .0; front = r .1 ∙ ap blockOf same-bytes }
 
-  pub read-back : w .card .link .state ≡ Rcv (One at) → blockIn w block .outcome ≡ Done → ReadsBack block (storedThenRead w block at)
-  read-back state granted = reads (One at) (one at) state granted (blockIn w block) (stored-holds (One at) (one at) state granted)
+  pub read-back : w .card .link .state ≡ Rcv (One at) → outcomeOf w (blockIn block) ≡ Done → ReadsBack block (storedThenRead w block at) output
+  read-back state granted = reads (One at) (one at) state granted (next w (blockIn block)) (stored-holds (One at) (one at) state granted)
 
-  pub read-back-many : w .card .link .state ≡ Rcv (Many at) → blockIn w block .outcome ≡ Done → ReadsBack block (storedStoppedThenRead w block at)
+  pub read-back-many : w .card .link .state ≡ Rcv (Many at) → outcomeOf w (blockIn block) ≡ Done → ReadsBack block (storedStoppedThenRead w block at) output
   read-back-many state granted =
-      let next : ℕ = at / 512 * 512 + 512 in
-      let v : World = blockIn w block in
+      let behind : ℕ = at / 512 * 512 + 512 in
+      let v : World = next w (blockIn block) in
       let h = stored-holds (Many at) (many at) state granted in
       let stopped =
-      by-frame (w .card .registers .groups) after-memory (w .map) (w .output) (still-lent (Many at) (many at) state granted) v Prg
-      (v .card .link .length) 12 0 h (omega arith) (omega arith) (leaves-12 (v .card) (h .unlocked) (Many next) (h .state-is))
+      by-frame (w .card .registers .groups) after-memory (w .map) (still-lent (Many at) (many at) state granted) v Prg
+      (v .card .link .length) 12 0 h (omega arith) (omega arith) (leaves-12 (v .card) (h .unlocked) (Many behind) (h .state-is))
       in
       reads (Many at) (many at) state granted (commanded v 12 0) (stopped .0)

@@ -1,6 +1,7 @@
 -- Every way in which a lock request can go, as far as the flag and what is lent are concerned: one list, and each request is on it.
 --   Asks        failed; an unlock with the stored password at a locked card; another request at an unlocked one; a forced erase
 --   asks        each request is one of these
+--   asks-erase  a forced erase that is granted was asked for by byte 0, of a locked card that its CSD does not protect
 -- Assumes nothing.
 use mathlib.Core.Path.{_≡_}
 use mathlib.Core.Bool.{Bool, true, false, not}
@@ -9,17 +10,17 @@ use Prim.Native.Nat.{ℕ}
 use borrow.Author.Tests.{eqb-true, not-true}
 use lib.Dec.{eqb, leb}
 use lib.ListN.{length, getD}
-use Rattle.base.proofs.Cases.{cases, picked, guarded}
+use Rattle.base.proofs.Cases.{cases, picked, guarded, clash}
 use Rattle.lock.specs.Passwords.{noPassword, flagged}
-use Rattle.lock.specs.Requests.{askedBy, settable, presented, allowed, failed, doneOf, requestOf}
+use Rattle.lock.specs.Requests.{askedBy, settable, presented, allowed, requestFailed, doneOf, requestOf}
 use Rattle.lock.specs.declared.Answer.the-variants.{Granted, Erased}
-use Rattle.lock.specs.declared.Asked.{Asked}
+use Rattle.lock.specs.declared.Operation.{Operation}
 use Rattle.lock.specs.declared.Lock.{Lock}
 use Rattle.lock.specs.declared.Requested.{Requested}
 
 module _ (lock : Lock) (payload : List ℕ) (protected : Bool) where
   pub data Asks : Requested → Type 0 where
-    fails : Asks (failed lock)
+    fails : Asks (requestFailed lock)
     unlocks : getD payload 0 0 ≡ 0 → lock .locked ≡ true → presented lock payload ≡ true → Asks (record { lock = flagged lock false; answer = Granted })
     others : (next : Lock) → lock .locked ≡ false → Asks (record { lock = next; answer = Granted })
     erases : getD payload 0 0 ≡ 8 → lock .locked ≡ true → protected ≡ false → Asks (record { lock = noPassword; answer = Erased })
@@ -27,7 +28,7 @@ module _ (lock : Lock) (payload : List ℕ) (protected : Bool) where
   abbrev byte : ℕ
   byte = getD payload 0 0
 
-  abbrev Done : Asked → Type 0
+  abbrev Done : Operation → Type 0
   Done asked = Asks (doneOf asked lock payload protected)
 
   first-zero : byte ≡ 0 → allowed byte (lock .locked) ≡ true → Done (askedBy byte)
@@ -57,3 +58,12 @@ module _ (lock : Lock) (payload : List ℕ) (protected : Bool) where
       (λ a.
       cases (eqb byte 0) (λ t. first-zero (eqb-true byte 0 t) a)
       (λ n0. cases (eqb byte 8) (λ t. first-eight (eqb-true byte 8 t) a) (λ n8. first-other n0 n8 a))))
+
+  erase-asked : {requested : Requested} → Asks requested → requested .answer ≡ Erased → (byte ≡ 8) × ((lock .locked ≡ true) × (protected ≡ false))
+  erase-asked fails e = clash cc
+  erase-asked (unlocks b l p) e = clash cc
+  erase-asked (others next l) e = clash cc
+  erase-asked (erases b l p) e = (b, (l, p))
+
+  pub asks-erase : requestOf lock payload protected .answer ≡ Erased → (getD payload 0 0 ≡ 8) × ((lock .locked ≡ true) × (protected ≡ false))
+  asks-erase = erase-asked asks

@@ -7,19 +7,19 @@ use mathlib.Core.Bool.{Bool, true, false}
 use Prim.Native.Nat.{ℕ, _+_, _%_, _≤_}
 use native.Mathlib.Omega.{arith}
 use borrow.Author.Tests.{le-leb, le-ltb}
-use Rattle.card.specs.Frame.{metAlone}
 use Rattle.command.specs.Answers.{answered}
 use Rattle.command.specs.Arguments.{argumentFault}
-use Rattle.command.specs.Command.{concluded, takenOf, commandOf}
+use Rattle.command.specs.Command.{metBy, concluded, takenOf, commandOf}
 use Rattle.command.specs.Obey.{leaving, taggingOf, judgedOf, awaitedBy, obeyed, changeOf}
 use Rattle.command.specs.declared.Change.the-variants.{Nothing}
 use Rattle.command.specs.declared.Commanded.{Commanded}
 use Rattle.command.specs.declared.Met.{Met}
 use Rattle.moves.specs.Moves.{moveOf}
 use Rattle.moves.specs.Rows.{transferRow, rowOf}
-use Rattle.record.specs.Record.{sizeOf}
-use Rattle.record.specs.declared.Card.{Card}
-use Rattle.record.specs.declared.Link.{Link}
+use Rattle.lock.specs.Passwords.{flagged}
+use Rattle.card_record.specs.Record.{sizeOf, withLock}
+use Rattle.card_record.specs.declared.Card.{Card}
+use Rattle.card_record.specs.declared.Link.{Link}
 use Rattle.states.specs.declared.Incoming.{Incoming}
 use Rattle.states.specs.declared.Outgoing.the-variants.{One}
 use Rattle.states.specs.declared.State.{State}
@@ -33,14 +33,14 @@ pub record Leaves (state : State) (length : ℕ) (given : Commanded) : Type 0 wh
 
 -- what a command meets at an unlocked card
 abbrev open-met : Card → Bool → Met
-open-met card locked = record { ocr = card .registers .ocr; groups = card .registers .groups; locked = locked; wins = true }
+open-met card locked = metBy (withLock card (flagged (card .lock) locked)) true
 
 abbrev sized : Link → State → ℕ → Link
 sized link s n = record { state = s; address = link .address; length = n; errors = link .errors; tags = link .tags }
 
 -- a property of a command at an unlocked card with this state and block length
 at-open : (P : Commanded → Type 0) (card : Card) (index argument : ℕ) (s : State) (n : ℕ) → card .lock .locked ≡ false → card .link .state ≡ s → card .link .length ≡ n
-    → P (commandOf (sized (card .link) s n) (open-met card false) index argument) → P (commandOf (card .link) (metAlone card) index argument)
+    → P (commandOf (sized (card .link) s n) (open-met card false) index argument) → P (commandOf (card .link) (metBy card true) index argument)
 at-open P card index argument s n l e k h =
     subst (λ (b : Bool). P (commandOf (card .link) (open-met card b) index argument)) (sym l)
     (subst (λ (m : ℕ). P (commandOf (sized (card .link) (card .link .state) m) (open-met card false) index argument)) (sym k)
@@ -55,11 +55,11 @@ module _ (card : Card) (unlocked : card .lock .locked ≡ false) where
   unfolding commandOf rowOf transferRow moveOf takenOf judgedOf taggingOf argumentFault concluded answered obeyed awaitedBy changeOf
   size n = record { state-is = refl; length-is = refl; unchanged = refl }
 
-  pub leaves-12 : (incoming : Incoming) → card .link .state ≡ Rcv incoming → Leaves Prg (card .link .length) (commandOf (card .link) (metAlone card) 12 0)
+  pub leaves-12 : (incoming : Incoming) → card .link .state ≡ Rcv incoming → Leaves Prg (card .link .length) (commandOf (card .link) (metBy card true) 12 0)
   leaves-12 incoming e =
       at-open (Leaves Prg (card .link .length)) card 12 0 (Rcv incoming) (card .link .length) unlocked e refl (stop incoming (card .link .length))
 
-  pub leaves-16 : card .link .state ≡ Tran → Leaves Tran 512 (commandOf (card .link) (metAlone card) 16 512)
+  pub leaves-16 : card .link .state ≡ Tran → Leaves Tran 512 (commandOf (card .link) (metBy card true) 16 512)
   leaves-16 e = at-open (Leaves Tran 512) card 16 512 Tran (card .link .length) unlocked e refl (size (card .link .length))
 
   module _ (at : ℕ) (in-range : at + 512 ≤ sizeOf (card .registers .groups)) (aligned : at % 512 ≡ 0) where
@@ -71,5 +71,5 @@ module _ (card : Card) (unlocked : card .lock .locked ≡ false) where
     unfolding commandOf rowOf transferRow moveOf takenOf concluded answered obeyed awaitedBy changeOf
     read = rw no-fault (record { state-is = refl; length-is = refl; unchanged = refl })
 
-    pub leaves-17 : card .link .state ≡ Tran → card .link .length ≡ 512 → Leaves (Data (One at)) 512 (commandOf (card .link) (metAlone card) 17 at)
+    pub leaves-17 : card .link .state ≡ Tran → card .link .length ≡ 512 → Leaves (Data (One at)) 512 (commandOf (card .link) (metBy card true) 17 at)
     leaves-17 e n = at-open (Leaves (Data (One at)) 512) card 17 at Tran 512 unlocked e n read

@@ -8,19 +8,20 @@
 --   frame-unlocks                            a locked card that a frame unlocks
 --   prefix-unlocks, set-unlocks              an unlock with a password of another length, or by a request whose byte 0 is 1
 --   password-kept                            power-on that unlocks a card with a password of one byte
--- and samples that antt computes, so that no theorem holds for want of cases:
+--   password-erases, write-erases            a forced erase by a request whose byte 0 is 0, or where a write is awaited
+-- and samples that antt computes, each of a made card (`samples-made`), so that no theorem holds for want of cases:
 --   write-happens, erase-happens, force-happens    a byte that changes by each cause
 --   protect-happens, free-happens, clear-happens   an entry that changes by each cause
 --   unlock-happens                                 a locked card that its password unlocks
 -- Assumes nothing.
-use mathlib.Core.Path.{_≡_, refl, sym, ap, _∙_}
-use mathlib.Core.Bool.{true, false}
+use mathlib.Core.Path.{_≡_, refl, sym, ap, _∙_, subst}
+use mathlib.Core.Bool.{Bool, true, false}
 use mathlib.Core.List.{List, [], _∷_}
 use mathlib.Core.Logic.{_⊎_, inl, inr}
-use Prim.Native.Nat.{ℕ}
+use Prim.Native.Nat.{ℕ, _≤_}
 use native.Mathlib.Omega.{arith}
 use lib.ListN.{length, getD, replicate}
-use Rattle.base.proofs.Cases.{clash, opposite}
+use Rattle.base.proofs.Cases.{clash, never, opposite}
 use Rattle.base.specs.declared.Refusal.{Refusal}
 use Rattle.card.specs.BlockIn.{blockGood, writeJudged, requestJudged, awaitedJudged, blockJudged, keptOf}
 use Rattle.card.specs.Frame.{frameJudged}
@@ -36,12 +37,16 @@ use Rattle.command.specs.declared.Change.the-variants.{Protect}
 use Rattle.crc.specs.Bits.{bits}
 use Rattle.crc.specs.Crc.{divide, remainder, checkSum, crc16}
 use Rattle.lock.specs.Passwords.{stored, same, holding, noPassword}
-use Rattle.lock.specs.Requests.{carried as passwordIn, presented, requestOf}
+use Rattle.lock.specs.Requests.{passwordIn, presented, requestOf}
 use Rattle.lock.specs.declared.Lock.{Lock}
+use Rattle.made.proofs.Locks.{holding-made}
+use Rattle.made.proofs.Pending.{none-pending}
+use Rattle.made.proofs.Reached.{register}
+use Rattle.made.specs.Made.{MadeRegisters, MadeLock, Waits, Made}
 use Rattle.moves.specs.Moves.{moveOf}
 use Rattle.moves.specs.Rows.{transferRow, rowOf}
-use Rattle.record.specs.Record.{csdProtects}
-use Rattle.record.specs.declared.Card.{Card}
+use Rattle.card_record.specs.Record.{csdProtects}
+use Rattle.card_record.specs.declared.Card.{Card}
 use Rattle.states.specs.declared.Incoming.the-variants.{One, LockRequest}
 use Rattle.states.specs.declared.State.{State}
 use Rattle.states.specs.declared.State.the-variants.{Tran, Rcv}
@@ -49,51 +54,53 @@ use Rattle.status.specs.Status.{noErrors}
 use Rattle.store.specs.Erase.{erasedSector, sectorErased, erasedTo, erased}
 use Rattle.store.specs.Map.{entriesRight, protectedIn}
 use Rattle.store.specs.Memory.{sectorWritten}
-use Rattle.tags.specs.Tagging.{noTags, tagsOf}
+use Rattle.tags.specs.Made.{MadeTags}
+use Rattle.tags.specs.Tagging.{noTags, tagsOf, anyOf}
 use Rattle.tags.specs.Tags.{taggedOf}
 use Rattle.tags.specs.declared.Kind.the-variants.{Sectors}
 use Rattle.tags.specs.declared.Range.the-variants.{Full}
 use Rattle.tags.specs.declared.Tags.{Tags}
-use Rattle.wire.specs.Blocks.{blockOf, carried as payloadOf}
-use Rattle.wire.specs.Frames.{crc7Of, sealed, commandFrame, sentOf, framingOf, frameOf}
+use Rattle.wire.specs.Blocks.{blockOf, payloadOf}
+use Rattle.wire.specs.Frames.{crc7Of, sealed, commandFrame, fieldsOf, framingOf, frameOf}
+use Rattle.wire.specs.Responses.{lastByte, registerRight}
 use Rattle.wire.specs.declared.Frame.the-variants.{Command}
-use Rattle.stored.specs.Changes.{SetBy, GrantedWrite, Cause, written, erased as by-tag, forced, MapCause, set}
+use Rattle.stored.specs.Changes.{SetBy, GrantedWrite, ForcedErase, Cause, written, erased as by-tag, forced, MapCause, set}
 use Rattle.stored.specs.Locked.{UnlockGranted, Unlocking, none-stored, unlocked}
 use Rattle.stored.specs.Locked.{forced as by-force}
 
 module _ (card : Card) (input : List ℕ) (memory : ℕ) (map : List ℕ) where
   -- a byte changes at a frame or at a block in, and at no other call
-  no-cause : (call : Call) (sector : ℕ) → (call ≡ BlockIn → ⊥) → (call ≡ Frame → ⊥) → Cause card call input memory map sector → ⊥
+  no-cause : (call : Call) (sector : ℕ) → (call ≡ BlockIn → ⊥) → ((wins : Bool) → call ≡ Frame wins → ⊥) → Cause card call input memory map sector → ⊥
   no-cause call sector b f (written at w e) = b (w .called)
-  no-cause call sector b f (by-tag t) = f (t .called)
+  no-cause call sector b f (by-tag t) = f (t .wins) (t .called)
   no-cause call sector b f (forced g) = b (g .called)
 
   power-erases : (sector : ℕ) → Cause card PowerOn input memory map sector → ⊥
   power-erases sector =
-      no-cause PowerOn sector (λ c. clash cc) (λ c. clash cc)
+      no-cause PowerOn sector (λ c. clash cc) (λ w c. clash cc)
 
   work-erases : (sector : ℕ) → Cause card WorkDone input memory map sector → ⊥
   work-erases sector =
-      no-cause WorkDone sector (λ c. clash cc) (λ c. clash cc)
+      no-cause WorkDone sector (λ c. clash cc) (λ w c. clash cc)
 
   out-erases : (sector : ℕ) → Cause card BlockOut input memory map sector → ⊥
   out-erases sector =
-      no-cause BlockOut sector (λ c. clash cc) (λ c. clash cc)
+      no-cause BlockOut sector (λ c. clash cc) (λ w c. clash cc)
 
-  spared-erased : (sector : ℕ) → protectedIn map (csdProtects (card .registers .csd)) sector ≡ true → Cause card Frame input memory map sector → ⊥
-  spared-erased sector p (written at w e) = let c = w .called in clash cc
-  spared-erased sector p (by-tag t) = opposite (protectedIn map (csdProtects (card .registers .csd)) sector) p (t .unprotected)
-  spared-erased sector p (forced f) = let c = f .called in clash cc
+  spared-erased : (wins : Bool) (sector : ℕ) → protectedIn map (csdProtects (card .registers .csd)) sector ≡ true → Cause card (Frame wins) input memory map sector → ⊥
+  spared-erased wins sector p (written at w e) = let c = w .called in clash cc
+  spared-erased wins sector p (by-tag t) = opposite (protectedIn map (csdProtects (card .registers .csd)) sector) p (t .unprotected)
+  spared-erased wins sector p (forced f) = let c = f .called in clash cc
 
-  untagged-erased : (sector : ℕ) → taggedOf (card .link .tags) sector ≡ false → Cause card Frame input memory map sector → ⊥
-  untagged-erased sector u (written at w e) = let c = w .called in clash cc
-  untagged-erased sector u (by-tag t) = opposite (taggedOf (card .link .tags) sector) (t .tagged) u
-  untagged-erased sector u (forced f) = let c = f .called in clash cc
+  untagged-erased : (wins : Bool) (sector : ℕ) → taggedOf (card .link .tags) sector ≡ false → Cause card (Frame wins) input memory map sector → ⊥
+  untagged-erased wins sector u (written at w e) = let c = w .called in clash cc
+  untagged-erased wins sector u (by-tag t) = opposite (taggedOf (card .link .tags) sector) (t .tagged) u
+  untagged-erased wins sector u (forced f) = let c = f .called in clash cc
 
-  status-erases : (sector argument : ℕ) → frameOf input ≡ Command 13 argument → Cause card Frame input memory map sector → ⊥
-  status-erases sector argument r (written at w e) = let c = w .called in clash cc
-  status-erases sector argument r (by-tag t) = let z : _≡_ {A = ℕ} 13 38 = cc (sym r ∙ t .command) in omega arith
-  status-erases sector argument r (forced f) = let c = f .called in clash cc
+  status-erases : (wins : Bool) (sector argument : ℕ) → frameOf input ≡ Command 13 argument → Cause card (Frame wins) input memory map sector → ⊥
+  status-erases wins sector argument r (written at w e) = let c = w .called in clash cc
+  status-erases wins sector argument r (by-tag t) = let z : _≡_ {A = ℕ} 13 38 = cc (sym r ∙ t .command) in omega arith
+  status-erases wins sector argument r (forced f) = let c = f .called in clash cc
 
   refused-stores : (at : ℕ) (refusal : Refusal) → blockJudged card input memory map .stepped .reply .outcome ≡ Refused refusal
       → GrantedWrite card BlockIn input memory map at → ⊥
@@ -104,30 +111,35 @@ module _ (card : Card) (input : List ℕ) (memory : ℕ) (map : List ℕ) where
   power-clears group (forced f) = let c = f .called in clash cc
 
   -- the index of a frame that sets or clears a group
-  neither : (index argument other group : ℕ) → (index ≡ 28 → ⊥) → (index ≡ 29 → ⊥) → frameOf input ≡ Command index argument
-      → SetBy card Frame input memory map 28 true other group ⊎ SetBy card Frame input memory map 29 false other group → ⊥
-  neither index argument other group a b r (inl c) = let e = sym r ∙ c .0 in a (cc)
-  neither index argument other group a b r (inr c) = let e = sym r ∙ c .0 in b (cc)
+  neither : (wins : Bool) (index argument other group : ℕ) → (index ≡ 28 → ⊥) → (index ≡ 29 → ⊥) → frameOf input ≡ Command index argument
+      → SetBy card (Frame wins) input memory map wins 28 true other group ⊎ SetBy card (Frame wins) input memory map wins 29 false other group → ⊥
+  neither wins index argument other group a b r (inl c) = let e = sym r ∙ c .0 in a (cc)
+  neither wins index argument other group a b r (inr c) = let e = sym r ∙ c .0 in b (cc)
 
-  status-protects : (group argument : ℕ) → frameOf input ≡ Command 13 argument → MapCause card Frame input memory map group → ⊥
-  status-protects group argument r (set s) =
-      neither 13 argument (s .argument) group (λ e. omega arith) (λ e. omega arith) r (s .taken)
-  status-protects group argument r (forced f) = let c = f .called in clash cc
+  status-protects : (wins : Bool) (group argument : ℕ) → frameOf input ≡ Command 13 argument → MapCause card (Frame wins) input memory map group → ⊥
+  status-protects wins group argument r (set s) =
+      neither (s .wins) 13 argument (s .argument) group (λ e. omega arith) (λ e. omega arith) r (s .taken)
+  status-protects wins group argument r (forced f) = let c = f .called in clash cc
 
-  set-or-not : (other group argument : ℕ) → frameOf input ≡ Command 28 argument → frameJudged card input memory map .change ≡ Protect group false
-      → SetBy card Frame input memory map 28 true other group ⊎ SetBy card Frame input memory map 29 false other group → ⊥
-  set-or-not other group argument r p (inl c) = let e = sym p ∙ c .1 in clash cc
-  set-or-not other group argument r p (inr c) = let e = sym r ∙ c .0 in let z : _≡_ {A = ℕ} 28 29 = cc in omega arith
+  set-or-not : (wins : Bool) (other group argument : ℕ) → frameOf input ≡ Command 28 argument → frameJudged card wins input memory map .change ≡ Protect group false
+      → SetBy card (Frame wins) input memory map wins 28 true other group ⊎ SetBy card (Frame wins) input memory map wins 29 false other group → ⊥
+  set-or-not wins other group argument r p (inl c) = let e = sym p ∙ c .1 in clash cc
+  set-or-not wins other group argument r p (inr c) = let e = sym r ∙ c .0 in let z : _≡_ {A = ℕ} 28 29 = cc in omega arith
 
-  set-clears : (group argument : ℕ) → frameOf input ≡ Command 28 argument → frameJudged card input memory map .change ≡ Protect group false
-      → MapCause card Frame input memory map group → ⊥
-  set-clears group argument r p (set s) = set-or-not (s .argument) group argument r p (s .taken)
-  set-clears group argument r p (forced f) = let c = f .called in clash cc
+  told : (v w : Bool) → Frame v ≡ Frame w → v ≡ w
+  told v w e = cc
 
-  frame-unlocks : Unlocking card Frame input memory map → ⊥
-  frame-unlocks (none-stored c n) = clash cc
-  frame-unlocks (by-force f) = let c = f .called in clash cc
-  frame-unlocks (unlocked u) = let c = u .called in clash cc
+  set-clears : (wins : Bool) (group argument : ℕ) → frameOf input ≡ Command 28 argument → frameJudged card wins input memory map .change ≡ Protect group false
+      → MapCause card (Frame wins) input memory map group → ⊥
+  set-clears wins group argument r p (set s) =
+      let same : wins ≡ s .wins = told wins (s .wins) (s .called) in
+      set-or-not (s .wins) (s .argument) group argument r (subst (λ (w : Bool). frameJudged card w input memory map .change ≡ Protect group false) same p) (s .taken)
+  set-clears wins group argument r p (forced f) = let c = f .called in clash cc
+
+  frame-unlocks : (wins : Bool) → Unlocking card (Frame wins) input memory map → ⊥
+  frame-unlocks wins (none-stored c n) = clash cc
+  frame-unlocks wins (by-force f) = let c = f .called in clash cc
+  frame-unlocks wins (unlocked u) = let c = u .called in clash cc
 
   prefix-unlocks : (call : Call) → (length (passwordIn (payloadOf input)) ≡ length (stored (card .lock)) → ⊥) → UnlockGranted card call input memory map → ⊥
   prefix-unlocks call ne u = ne (ap length (u .password))
@@ -140,21 +152,63 @@ module _ (card : Card) (input : List ℕ) (memory : ℕ) (map : List ℕ) where
   password-kept l (by-force f) = let c = f .called in clash cc
   password-kept l (unlocked u) = let c = u .called in clash cc
 
--- ---- samples: a card of 8,192 bytes
+module _ (card : Card) (call : Call) (input : List ℕ) (memory : ℕ) (map : List ℕ) where
+  password-erases : getD (payloadOf input) 0 0 ≡ 0 → ForcedErase card call input memory map → ⊥
+  password-erases z f = omega (arith, z, f .forced)
+
+  write-erases : (at : ℕ) → card .link .state ≡ Rcv (One at) → ForcedErase card call input memory map → ⊥
+  write-erases at s f = let a = f .awaited in clash cc
+
+-- ---- samples: a card of 8,192 bytes, with registers whose last byte is right
 abbrev sample : State → ℕ → Lock → Tags → Card
 sample state length lock tags =
     record {
-      registers = record { cid = replicate 16 0; csd = replicate 16 0; ocr = 0x00FF8000; groups = 1 };
+      registers = record { cid = register; csd = register; ocr = 0x00FF8000; groups = 1 };
       lock = lock;
       link = record { state = state; address = 1; length = length; errors = noErrors; tags = tags };
     }
+
+-- each is a card as making and calls leave one
+registers-right : MadeRegisters (record { cid = register; csd = register; ocr = 0x00FF8000; groups = 1 })
+unfolding registerRight lastByte crc7Of remainder divide bits
+registers-right = record { size = refl; cid = refl; csd = refl; ocr = omega arith }
+
+sample-made : (state : State) (length : ℕ) (lock : Lock) (tags : Tags) → MadeLock lock → (1 ≤ length) × (length ≤ 2048) → MadeTags 8192 tags
+    → (anyOf tags ≡ true → (state ≡ Tran) × (lock .locked ≡ false)) → Waits 1 length (lock .locked) state → Made (sample state length lock tags)
+sample-made state length lock tags l b t g w =
+    record {
+      registers = registers-right;
+      lock = l;
+      link = record { address = omega arith; block = b; tags = t; tagged = g; work = w; errors = none-pending };
+    }
+
+samples-made : Made (sample (Rcv (One 512)) 512 noPassword noTags)
+    × (Made (sample Tran 512 noPassword (tagsOf (Full Sectors 1 1)))
+    × (Made (sample Tran 512 noPassword noTags)
+    × (Made (sample (Rcv LockRequest) 1 (holding (7 ∷ []) true) noTags) × Made (sample (Rcv LockRequest) 3 (holding (7 ∷ []) true) noTags))))
+unfolding holding
+samples-made =
+    let free : MadeLock noPassword = holding-made [] false (omega arith) (λ e. never e) in
+    let shut : MadeLock (holding (7 ∷ []) true) = holding-made (7 ∷ []) true (omega arith) (λ e. omega arith) in (
+      sample-made (Rcv (One 512)) 512 noPassword noTags free (omega arith, omega arith) tt (λ e. never e) (refl, (omega arith, (refl, refl))),
+      (
+        sample-made Tran 512 noPassword (tagsOf (Full Sectors 1 1)) free (omega arith, omega arith) (omega arith, (refl, omega arith)) (λ e. (refl, refl)) tt,
+        (
+          sample-made Tran 512 noPassword noTags free (omega arith, omega arith) tt (λ e. never e) tt,
+          (
+            sample-made (Rcv LockRequest) 1 (holding (7 ∷ []) true) noTags shut (omega arith, omega arith) tt (λ e. never e) tt,
+            sample-made (Rcv LockRequest) 3 (holding (7 ∷ []) true) noTags shut (omega arith, omega arith) tt (λ e. never e) tt,
+          ),
+        ),
+      ),
+    )
 
 write-happens : getD (memoryOf (sample (Rcv (One 512)) 512 noPassword noTags) BlockIn (blockOf (replicate 512 7)) (replicate 8192 0xFF) (0 ∷ [])) 512 0 ≡ 7
 unfolding blockJudged awaitedJudged writeJudged blockGood keptOf sectorWritten blockOf crc16 checkSum remainder divide bits holding entriesRight
 write-happens = refl
 
-erase-happens : getD (memoryOf (sample Tran 512 noPassword (tagsOf (Full Sectors 1 1))) Frame (commandFrame 38 0) (replicate 8192 0) (0 ∷ [])) 512 0 ≡ 0xFF
-unfolding frameJudged commandOf rowOf transferRow moveOf takenOf judgedOf taggingOf concluded answered changeOf holding entriesRight erased erasedTo sectorErased erasedSector sectorWritten commandFrame sealed crc7Of remainder divide bits framingOf sentOf
+erase-happens : getD (memoryOf (sample Tran 512 noPassword (tagsOf (Full Sectors 1 1))) (Frame true) (commandFrame 38 0) (replicate 8192 0) (0 ∷ [])) 512 0 ≡ 0xFF
+unfolding frameJudged commandOf rowOf transferRow moveOf takenOf judgedOf taggingOf concluded answered changeOf holding entriesRight erased erasedTo sectorErased erasedSector sectorWritten commandFrame sealed crc7Of remainder divide bits framingOf fieldsOf
 erase-happens = refl
 
 force-happens : getD (memoryOf (sample (Rcv LockRequest) 1 (holding (7 ∷ []) true) noTags) BlockIn (blockOf (8 ∷ [])) (replicate 8192 0) (1 ∷ [])) 512 0 ≡ 0xFF
@@ -165,12 +219,12 @@ clear-happens : mapOf (sample (Rcv LockRequest) 1 (holding (7 ∷ []) true) noTa
 unfolding blockJudged awaitedJudged requestJudged requestOf blockGood blockOf crc16 checkSum remainder divide bits holding entriesRight
 clear-happens = refl
 
-protect-happens : mapOf (sample Tran 512 noPassword noTags) Frame (commandFrame 28 0) 8192 (0 ∷ []) ≡ 1 ∷ []
-unfolding frameJudged commandOf rowOf transferRow moveOf takenOf judgedOf taggingOf argumentFault concluded answered changeOf holding entriesRight commandFrame sealed crc7Of remainder divide bits framingOf sentOf
+protect-happens : mapOf (sample Tran 512 noPassword noTags) (Frame true) (commandFrame 28 0) 8192 (0 ∷ []) ≡ 1 ∷ []
+unfolding frameJudged commandOf rowOf transferRow moveOf takenOf judgedOf taggingOf argumentFault concluded answered changeOf holding entriesRight commandFrame sealed crc7Of remainder divide bits framingOf fieldsOf
 protect-happens = refl
 
-free-happens : mapOf (sample Tran 512 noPassword noTags) Frame (commandFrame 29 0) 8192 (1 ∷ []) ≡ 0 ∷ []
-unfolding frameJudged commandOf rowOf transferRow moveOf takenOf judgedOf taggingOf argumentFault concluded answered changeOf holding entriesRight commandFrame sealed crc7Of remainder divide bits framingOf sentOf
+free-happens : mapOf (sample Tran 512 noPassword noTags) (Frame true) (commandFrame 29 0) 8192 (1 ∷ []) ≡ 0 ∷ []
+unfolding frameJudged commandOf rowOf transferRow moveOf takenOf judgedOf taggingOf argumentFault concluded answered changeOf holding entriesRight commandFrame sealed crc7Of remainder divide bits framingOf fieldsOf
 free-happens = refl
 
 unlock-happens : stepOf (sample (Rcv LockRequest) 3 (holding (7 ∷ []) true) noTags) BlockIn (blockOf (0 ∷ 1 ∷ 7 ∷ [])) 8192 (0 ∷ []) 0 .card .lock .locked ≡ false

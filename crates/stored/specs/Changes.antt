@@ -5,6 +5,8 @@ use mathlib.Core.Bool.{Bool, true, false}
 use mathlib.Core.List.{List}
 use mathlib.Core.Logic.{_⊎_}
 use Prim.Native.Nat.{ℕ, _/_}
+use lib.ListN.{getD}
+use Rattle.base.specs.Sizes.{sectorSize, protectionGroupSize}
 use Rattle.card.specs.BlockIn.{blockJudged}
 use Rattle.card.specs.Frame.{frameJudged}
 use Rattle.card.specs.Step.{stepOf}
@@ -13,12 +15,13 @@ use Rattle.card.specs.declared.Call.the-variants.{Frame, BlockIn}
 use Rattle.card.specs.declared.Outcome.the-variants.{Done}
 use Rattle.card.specs.declared.Storing.the-variants.{All}
 use Rattle.command.specs.declared.Change.the-variants.{Protect, Erase}
-use Rattle.record.specs.Record.{csdProtects}
-use Rattle.record.specs.declared.Card.{Card}
-use Rattle.states.specs.declared.Incoming.the-variants.{One, Many}
+use Rattle.card_record.specs.Record.{csdProtects}
+use Rattle.card_record.specs.declared.Card.{Card}
+use Rattle.states.specs.declared.Incoming.the-variants.{One, Many, LockRequest}
 use Rattle.states.specs.declared.State.the-variants.{Rcv}
 use Rattle.store.specs.Map.{protectedIn}
 use Rattle.tags.specs.Tags.{taggedOf}
+use Rattle.wire.specs.Blocks.{payloadOf}
 use Rattle.wire.specs.Frames.{frameOf}
 use Rattle.wire.specs.declared.Frame.the-variants.{Command}
 
@@ -28,7 +31,7 @@ AwaitsWrite card at = (card .link .state ≡ Rcv (One at)) ⊎ (card .link .stat
 
 -- a protected byte: "CSD bit 13 (permanent) or 12 (temporary) protects the whole card", and "The map has one byte per protection group"
 abbrev pub ProtectedByte : Card → List ℕ → ℕ → Type 0
-ProtectedByte card map p = protectedIn map (csdProtects (card .registers .csd)) (p / 512) ≡ true
+ProtectedByte card map p = protectedIn map (csdProtects (card .registers .csd)) (p / sectorSize) ≡ true
 
 -- one call at a card: its record, the call, the input, the bytes of the lent memory and the lent map
 module _ (card : Card) (call : Call) (input : List ℕ) (memory : ℕ) (map : List ℕ) where
@@ -40,34 +43,38 @@ module _ (card : Card) (call : Call) (input : List ℕ) (memory : ℕ) (map : Li
 
   -- "CMD38 .. fills every tagged sector outside protection": CMD38, taken without an error, and the sector is one that it fills
   pub record ErasedByTag (sector : ℕ) : Type 0 where
-    pub called : call ≡ Frame
+    pub wins : Bool
+    pub called : call ≡ Frame wins
     pub argument : ℕ
     pub command : frameOf input ≡ Command 38 argument
-    pub taken : frameJudged card input memory map .change ≡ Erase
+    pub taken : frameJudged card wins input memory map .change ≡ Erase
     pub tagged : taggedOf (card .link .tags) sector ≡ true
     pub unprotected : protectedIn map (csdProtects (card .registers .csd)) sector ≡ false
 
-  -- "Forced erase .. fills memory, clears the map": a block in that was granted as one
+  -- "Forced erase .. fills memory, clears the map": a lock request was awaited, its byte 0 was 8, and the block in was granted as one
   pub record ForcedErase : Type 0 where
     pub called : call ≡ BlockIn
+    pub awaited : card .link .state ≡ Rcv LockRequest
+    pub forced : getD (payloadOf input) 0 0 ≡ 8
     pub granted : blockJudged card input memory map .storing ≡ All
 
   -- why a byte of a sector may change
   pub data Cause (sector : ℕ) : Type 0 where
-    written : (at : ℕ) → GrantedWrite at → sector ≡ at / 512 → Cause sector
+    written : (at : ℕ) → GrantedWrite at → sector ≡ at / sectorSize → Cause sector
     erased : ErasedByTag sector → Cause sector
     forced : ForcedErase → Cause sector
 
   -- a command, taken without an error, that sets a group or clears it
-  abbrev pub SetBy : ℕ → Bool → ℕ → ℕ → Type 0
-  SetBy index on argument group = (frameOf input ≡ Command index argument) × (frameJudged card input memory map .change ≡ Protect group on)
+  abbrev pub SetBy : Bool → ℕ → Bool → ℕ → ℕ → Type 0
+  SetBy wins index on argument group = (frameOf input ≡ Command index argument) × (frameJudged card wins input memory map .change ≡ Protect group on)
 
   -- "CMD28, 29: set, clear the addressed group": CMD28 sets and CMD29 clears, at an address in the group
   pub record ProtectionSet (group : ℕ) : Type 0 where
-    pub called : call ≡ Frame
+    pub wins : Bool
+    pub called : call ≡ Frame wins
     pub argument : ℕ
-    pub addressed : group ≡ argument / 8192
-    pub taken : SetBy 28 true argument group ⊎ SetBy 29 false argument group
+    pub addressed : group ≡ argument / protectionGroupSize
+    pub taken : SetBy wins 28 true argument group ⊎ SetBy wins 29 false argument group
 
   -- why a group's entry of the map may change
   pub data MapCause (group : ℕ) : Type 0 where

@@ -1,7 +1,7 @@
 -- Document 01, "How a card takes a frame" and "Reading, writing, erasing, locking": what a locked card lets happen.
 -- Assumes nothing.
 use mathlib.Core.Path.{_≡_}
-use mathlib.Core.Bool.{true}
+use mathlib.Core.Bool.{Bool, true}
 use mathlib.Core.List.{List}
 use Prim.Native.Nat.{ℕ, _≤_}
 use lib.ListN.{length, getD}
@@ -10,11 +10,11 @@ use Rattle.card.specs.declared.Call.{Call}
 use Rattle.card.specs.declared.Call.the-variants.{Frame, BlockIn, PowerOn}
 use Rattle.card.specs.declared.Outcome.the-variants.{Done}
 use Rattle.lock.specs.Passwords.{stored}
-use Rattle.lock.specs.Requests.{carried as passwordIn}
-use Rattle.record.specs.declared.Card.{Card}
+use Rattle.lock.specs.Requests.{passwordIn}
+use Rattle.card_record.specs.declared.Card.{Card}
 use Rattle.states.specs.declared.Incoming.the-variants.{LockRequest}
 use Rattle.states.specs.declared.State.the-variants.{Rcv}
-use Rattle.wire.specs.Blocks.{carried as payloadOf}
+use Rattle.wire.specs.Blocks.{payloadOf}
 use Rattle.stored.specs.Changes.{AwaitsWrite, ForcedErase}
 
 -- a locked card that awaits no write: "Locked: only class 0 and CMD42 go on", so none of a locked card's commands makes it await one
@@ -38,9 +38,9 @@ pub data Unlocking (card : Card) (call : Call) (input : List ℕ) (memory : ℕ)
   unlocked : UnlockGranted card call input memory map → Unlocking card call input memory map
 
 -- "others answer R1 with bit 24, no move": a frame leaves state, address and block length as they were, and every byte that is lent
-pub record Unmoved (card : Card) (frame memory map : List ℕ) (room : ℕ) : Type 0 where
-  pub state : stepOf card Frame frame (length memory) map room .card .link .state ≡ card .link .state
-  pub address : stepOf card Frame frame (length memory) map room .card .link .address ≡ card .link .address
-  pub length-kept : stepOf card Frame frame (length memory) map room .card .link .length ≡ card .link .length
-  pub memory-kept : memoryOf card Frame frame memory map ≡ memory
-  pub map-kept : mapOf card Frame frame (length memory) map ≡ map
+pub record Unmoved (card : Card) (wins : Bool) (frame memory map : List ℕ) (room : ℕ) : Type 0 where
+  pub state : stepOf card (Frame wins) frame (length memory) map room .card .link .state ≡ card .link .state
+  pub address : stepOf card (Frame wins) frame (length memory) map room .card .link .address ≡ card .link .address
+  pub length-kept : stepOf card (Frame wins) frame (length memory) map room .card .link .length ≡ card .link .length
+  pub memory-kept : memoryOf card (Frame wins) frame memory map ≡ memory
+  pub map-kept : mapOf card (Frame wins) frame (length memory) map ≡ map

@@ -1,6 +1,7 @@
 -- What tag commands do, whatever comes in.
 --   start-error-drops, end-error-drops   an error drops the tags
 --   made-none, made-start, made-end      tags that these commands make are ordered, of sectors in one erase group, and below the size
+--   error-leaves-none   and then nothing is tagged, not even a start: computed
 --   at-the-size, last-byte, kind-before-order, next-group, next-group-tagged, one-sector, new-end, wrong-new-end   computed
 -- Assumes nothing.
 use mathlib.Core.Path.{_≡_, refl, sym, subst}
@@ -14,12 +15,13 @@ use Rattle.base.specs.Choice.{unless}
 use Rattle.status.specs.ErrorBits.{errorBit}
 use Rattle.status.specs.declared.ErrorBit.{ErrorBit}
 use Rattle.status.specs.declared.Fault.the-variants.{Bit}
-use Rattle.tags.specs.Made.{width, MadeTags}
-use Rattle.tags.specs.Tagging.{tagsOf, noTags, placeIn, failed, made, hasStart, firstOf, oneGroup, startTagged, ended, endTagged}
+use Rattle.tags.specs.Made.{MadeTags}
+use Rattle.tags.specs.Tagging.{tagsOf, noTags, anyOf, placeIn, tagFailed, made, hasStart, firstOf, oneGroup, startTagged, endAt, endTagged}
+use Rattle.tags.specs.Tags.{width}
 use Rattle.tags.specs.declared.Kind.{Kind}
 use Rattle.tags.specs.declared.Kind.the-variants.{Sectors, Groups}
 use Rattle.tags.specs.declared.Range.{Range}
-use Rattle.tags.specs.declared.Range.the-variants.{Start, Full}
+use Rattle.tags.specs.declared.Range.the-variants.{Nothing, Start, Full}
 use Rattle.tags.specs.declared.Tagging.{Tagging}
 use Rattle.tags.specs.declared.Tags.{Tags}
 
@@ -29,18 +31,18 @@ either P true refusal rest bad good = good refl
 either P false refusal rest bad good = bad
 
 -- a tag command either fails with some bit or makes what it names, and then its tests held
-module _ (P : Tagging → Type 0) (bad : (bit : ErrorBit) → P (failed bit)) (kind : Kind) (address size : ℕ) where
+module _ (P : Tagging → Type 0) (bad : (bit : ErrorBit) → P (tagFailed bit)) (kind : Kind) (address size : ℕ) where
   after-start : (address < size → P (made (Start kind (placeIn kind address)))) → P (startTagged kind address size)
   unfolding startTagged
   after-start good =
-      either P (ltb address size) (failed (errorBit 31)) (made (Start kind (placeIn kind address))) (bad (errorBit 31))
+      either P (ltb address size) (tagFailed (errorBit 31)) (made (Start kind (placeIn kind address))) (bad (errorBit 31))
       (λ t. good (ltb-true address size t))
 
-  after-ended : (first last : ℕ) → (first ≤ last → oneGroup kind first last ≡ true → P (made (Full kind first last))) → P (ended kind first last)
+  after-ended : (first last : ℕ) → (first ≤ last → oneGroup kind first last ≡ true → P (made (Full kind first last))) → P (endAt kind first last)
   after-ended first last good =
-      either P (leb first last) (failed (errorBit 27)) _ (bad (errorBit 27))
+      either P (leb first last) (tagFailed (errorBit 27)) _ (bad (errorBit 27))
       (λ t.
-      either P (oneGroup kind first last) (failed (errorBit 27)) (made (Full kind first last)) (bad (errorBit 27))
+      either P (oneGroup kind first last) (tagFailed (errorBit 27)) (made (Full kind first last)) (bad (errorBit 27))
       (good (leb-true first last t)))
 
   after-end : (tags : Tags)
@@ -50,16 +52,16 @@ module _ (P : Tagging → Type 0) (bad : (bit : ErrorBit) → P (failed bit)) (k
   after-end tags good =
       let first : ℕ = firstOf (tags .range) in
       let last : ℕ = placeIn kind address in
-      either P (ltb address size) (failed (errorBit 31)) _ (bad (errorBit 31))
+      either P (ltb address size) (tagFailed (errorBit 31)) _ (bad (errorBit 31))
       (λ t.
-      either P (hasStart kind (tags .range)) (failed (errorBit 28)) (ended kind first last) (bad (errorBit 28))
+      either P (hasStart kind (tags .range)) (tagFailed (errorBit 28)) (endAt kind first last) (bad (errorBit 28))
       (λ u. after-ended first last (good first last refl (ltb-true address size t))))
 
 -- ---- errors drop tags
 abbrev pub Drops : Tagging → Type 0
 Drops t = (bit : ErrorBit) → t .error ≡ Bit bit → t .tags ≡ noTags
 
-failed-drops : (bit : ErrorBit) → Drops (failed bit)
+failed-drops : (bit : ErrorBit) → Drops (tagFailed bit)
 failed-drops bit other e = refl
 
 made-drops : (range : Range) → Drops (made range)
@@ -71,6 +73,11 @@ start-error-drops kind address size = after-start Drops failed-drops kind addres
 pub end-error-drops : (tags : Tags) (kind : Kind) (address size : ℕ) → Drops (endTagged tags kind address size)
 end-error-drops tags kind address size =
     after-end Drops failed-drops kind address size tags (λ first last e h le one. made-drops (Full kind first last))
+
+-- an end at the size, where a start was tagged
+pub error-leaves-none : (endTagged (tagsOf (Start Sectors 3)) Sectors 8192 8192 .tags .range ≡ Nothing) × (anyOf noTags ≡ false)
+unfolding endTagged
+error-leaves-none = (refl, refl)
 
 -- ---- tags as they are made
 below-size : (kind : Kind) (address size : ℕ) → address < size → placeIn kind address * width kind < size
@@ -93,7 +100,7 @@ made-end tags kind address size =
 
 -- ---- computed, in a memory of 8,192 bytes
 -- an address at the size is out of range, and that is told before the missing start
-pub at-the-size : (startTagged Sectors 8192 8192 ≡ failed (errorBit 31)) × (endTagged noTags Groups 8192 8192 ≡ failed (errorBit 31))
+pub at-the-size : (startTagged Sectors 8192 8192 ≡ tagFailed (errorBit 31)) × (endTagged noTags Groups 8192 8192 ≡ tagFailed (errorBit 31))
 unfolding startTagged endTagged
 at-the-size = (refl, refl)
 
@@ -103,12 +110,12 @@ unfolding startTagged
 last-byte = (refl, refl)
 
 -- a start of the other kind is none, and that is told before an end that lies before it
-pub kind-before-order : endTagged (tagsOf (Start Groups 9)) Sectors 0 8192 ≡ failed (errorBit 28)
+pub kind-before-order : endTagged (tagsOf (Start Groups 9)) Sectors 0 8192 ≡ tagFailed (errorBit 28)
 unfolding endTagged
 kind-before-order = refl
 
 -- sectors end in the erase group of their start, groups need not
-pub next-group : endTagged (tagsOf (Start Sectors 7)) Sectors 4096 8192 ≡ failed (errorBit 27)
+pub next-group : endTagged (tagsOf (Start Sectors 7)) Sectors 4096 8192 ≡ tagFailed (errorBit 27)
 unfolding endTagged
 next-group = refl
 
@@ -126,6 +133,6 @@ pub new-end : endTagged (tagsOf (Full Sectors 1 5)) Sectors 1024 8192 ≡ made (
 unfolding endTagged
 new-end = refl
 
-pub wrong-new-end : endTagged (tagsOf (Full Sectors 1 5)) Sectors 511 8192 ≡ failed (errorBit 27)
+pub wrong-new-end : endTagged (tagsOf (Full Sectors 1 5)) Sectors 511 8192 ≡ tagFailed (errorBit 27)
 unfolding endTagged
 wrong-new-end = refl

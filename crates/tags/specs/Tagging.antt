@@ -7,7 +7,7 @@ use Rattle.base.specs.Choice.{unless}
 use Rattle.status.specs.ErrorBits.{errorBit}
 use Rattle.status.specs.declared.ErrorBit.{ErrorBit}
 use Rattle.status.specs.declared.Fault.the-variants.{None, Bit}
-use Rattle.tags.specs.Tags.{counted}
+use Rattle.tags.specs.Tags.{width, counted}
 use Rattle.tags.specs.declared.Kind.{Kind}
 use Rattle.tags.specs.declared.Kind.the-variants.{Sectors, Groups}
 use Rattle.tags.specs.declared.Range.{Range}
@@ -32,14 +32,22 @@ anyIn (Full kind first last) = true
 abbrev pub anyOf : Tags → Bool
 anyOf tags = anyIn (tags .range)
 
--- "An address stands for the sector or group it lies in": "Sector 512, erase group 4,096"
+-- "CMD38 needs both": a start and an end
+abbrev pub isFull : Range → Bool
+isFull Nothing = false
+isFull (Start kind first) = false
+isFull (Full kind first last) = true
+
+abbrev pub isComplete : Tags → Bool
+isComplete tags = isFull (tags .range)
+
+-- "An address stands for the sector or group it lies in"
 abbrev pub placeIn : Kind → ℕ → ℕ
-placeIn Sectors address = address / 512
-placeIn Groups address = address / 4096
+placeIn kind address = address / width kind
 
 -- "An error in 32-38 drops tags"
-abbrev pub failed : ErrorBit → Tagging
-failed bit = record { tags = noTags; error = Bit bit }
+abbrev pub tagFailed : ErrorBit → Tagging
+tagFailed bit = record { tags = noTags; error = Bit bit }
 
 -- a tag command without an error leaves the tags that it makes, and none of the old ones
 abbrev pub made : Range → Tagging
@@ -47,7 +55,7 @@ made range = record { tags = tagsOf range; error = None }
 
 -- CMD32 for sectors, CMD35 for groups. "Order: range (31)"; "A new start replaces all tags"
 unfoldable pub startTagged : Kind → ℕ → ℕ → Tagging
-startTagged kind address size = unless (ltb address size) (failed (errorBit 31)) (made (Start kind (placeIn kind address)))
+startTagged kind address size = unless (ltb address size) (tagFailed (errorBit 31)) (made (Start kind (placeIn kind address)))
 
 abbrev pub sameKind : Kind → Kind → Bool
 sameKind Sectors Sectors = true
@@ -74,12 +82,12 @@ oneGroup Groups first last = true
 
 -- CMD33 for sectors, CMD36 for groups, from the start at `first` to the end at `last`.
 -- "an end before the start, or a sector in another erase group (27)"; "A new start replaces all tags, a new end the old end"
-abbrev pub ended : Kind → ℕ → ℕ → Tagging
-ended kind first last =
-    unless (leb first last) (failed (errorBit 27)) (unless (oneGroup kind first last) (failed (errorBit 27)) (made (Full kind first last)))
+abbrev pub endAt : Kind → ℕ → ℕ → Tagging
+endAt kind first last =
+    unless (leb first last) (tagFailed (errorBit 27)) (unless (oneGroup kind first last) (tagFailed (errorBit 27)) (made (Full kind first last)))
 
 -- "Order: range (31); an end with no start of its kind (28)"; and then 27
 unfoldable pub endTagged : Tags → Kind → ℕ → ℕ → Tagging
 endTagged tags kind address size =
-    unless (ltb address size) (failed (errorBit 31))
-    (unless (hasStart kind (tags .range)) (failed (errorBit 28)) (ended kind (firstOf (tags .range)) (placeIn kind address)))
+    unless (ltb address size) (tagFailed (errorBit 31))
+    (unless (hasStart kind (tags .range)) (tagFailed (errorBit 28)) (endAt kind (firstOf (tags .range)) (placeIn kind address)))

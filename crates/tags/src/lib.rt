@@ -2,13 +2,15 @@
 // sectors or of erase groups, by their numbers; what CMD32, 33, 35 and 36 do with them, and what
 // CMD38 takes. No call has a `requires`: tags that no command made are answered too.
 //
-// Offers: `Kind`, `Range`, `Tags`, `tagged`; `no_tags`, `any`; `Tagging`, `tag_start`, `tag_end`;
-// `ToErase`, `to_erase`.
+// Offers: `Kind`, `Range`, `Tags`, `tagged`; `no_tags`, `any`, `complete`; `Tagging`, `tag_start`,
+// `tag_end`.
+use base::ERASE_GROUP;
+use base::SECTOR;
 use status::ErrorBit;
 use status::Fault;
 ghost use mathlib.Core.Path.{_≡_};
-ghost use Rattle.tags.specs.Tagging.{tagsOf, noTags, anyOf, placeIn, failed, sameKind, hasStart, firstOf, oneGroup, startTagged, endTagged};
-ghost use Rattle.tags.specs.Tags.{within, taggedOf, firstSector, lastSector, eraseOf};
+ghost use Rattle.tags.specs.Tagging.{tagsOf, noTags, anyOf, isComplete, placeIn, tagFailed, sameKind, hasStart, firstOf, oneGroup, startTagged, endTagged};
+ghost use Rattle.tags.specs.Tags.{within, taggedOf};
 
 pub enum Kind {
     Sectors,
@@ -30,13 +32,6 @@ pub struct Tags {
 pub struct Tagging {
     pub tags: Tags,
     pub error: Fault,
-}
-
-// What an erase takes, protection apart: the sectors from the first to the last, both within; or
-// the error of an erase without a start and an end.
-pub enum ToErase {
-    Sectors { first: u64, last: u64 },
-    Error(ErrorBit),
 }
 
 fn within(n: u32, first: u32, last: u32) -> bool
@@ -89,19 +84,31 @@ pub fn any(tags: Tags) -> bool
     }
 }
 
+// Whether a start and an end are tagged, as CMD38 needs.
+pub fn complete(tags: Tags) -> bool
+    ensures answer { λ r. ⌜ r ≡ isComplete tags ⌝ }
+{
+    let range = tags.range;
+    match range {
+        Range::Nothing => false,
+        Range::Start(_, _) => false,
+        Range::Full(_, _, _) => true,
+    }
+}
+
 // The number of the sector or erase group that an address lies in.
 fn place_in(kind: Kind, address: u32) -> u32
     ensures { λ r. ⌜ r ≡ placeIn kind address ⌝ }
 {
     match kind {
-        Kind::Sectors => address / 512,
-        Kind::Groups => address / 4096,
+        Kind::Sectors => address / SECTOR,
+        Kind::Groups => address / ERASE_GROUP,
     }
 }
 
 // An error in a tag command drops the tags.
 fn fail(bit: ErrorBit) -> Tagging
-    ensures { λ r. ⌜ r ≡ failed bit ⌝ }
+    ensures { λ r. ⌜ r ≡ tagFailed bit ⌝ }
 {
     Tagging {
         tags: no_tags(),
@@ -191,38 +198,5 @@ pub fn tag_end(tags: Tags, kind: Kind, address: u32, size: u32) -> Tagging
     Tagging {
         tags: new_tags(Range::Full(kind, first, last)),
         error: Fault::None,
-    }
-}
-
-fn first_sector(kind: Kind, n: u32) -> u64
-    ensures { λ r. ⌜ r ≡ firstSector kind n ⌝ }
-{
-    match kind {
-        Kind::Sectors => n as u64,
-        Kind::Groups => n as u64 * 8,
-    }
-}
-
-fn last_sector(kind: Kind, n: u32) -> u64
-    ensures { λ r. ⌜ r ≡ lastSector kind n ⌝ }
-{
-    match kind {
-        Kind::Sectors => n as u64,
-        Kind::Groups => n as u64 * 8 + 7,
-    }
-}
-
-// CMD38: the sectors that it is to fill, protection apart.
-pub fn to_erase(tags: Tags) -> ToErase
-    ensures answer { λ r. ⌜ r ≡ eraseOf tags ⌝ }
-{
-    let range = tags.range;
-    match range {
-        Range::Nothing => ToErase::Error(ErrorBit::EraseSeqError),
-        Range::Start(_, _) => ToErase::Error(ErrorBit::EraseSeqError),
-        Range::Full(kind, first, last) => ToErase::Sectors {
-            first: first_sector(kind, first),
-            last: last_sector(kind, last),
-        },
     }
 }

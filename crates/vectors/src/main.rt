@@ -7,19 +7,16 @@ mod say;
 
 use libc::STDIN_FILENO;
 use parse::find;
+use program_io::all;
+use program_io::show;
 use request::answer;
 use say::say;
+use text::parts::part;
 
 fn main() {
     let mut text = io::large_buffer();
-    let n = io::read_full(STDIN_FILENO, &mut text);
-    // A script that is cut short would be taken for a whole one.
-    let mut more = [0u8; 1];
-    if 0 < io::read_full(STDIN_FILENO, &mut more) {
-        say(b"the script is longer than 65,536 bytes\n");
-        return;
-    }
-    run(&text[..n]);
+    let n = all(STDIN_FILENO, b"standard input", &mut text);
+    run(part(&text, 0, n));
 }
 
 // A script, line by line.
@@ -27,7 +24,9 @@ fn run(text: &[u8]) {
     let mut at: usize = 0;
     while at < text.len() {
         let end = find(text, at, b'\n');
-        line(&text[at..end]);
+        if !line(&text[at..end]) {
+            return;
+        }
         if end == text.len() {
             return;
         }
@@ -35,13 +34,15 @@ fn run(text: &[u8]) {
     }
 }
 
-fn line(l: &[u8]) {
+// One line: whether it could be written.
+fn line(l: &[u8]) -> bool {
     say(l);
     if is_request(l) {
         say(b" -> ");
         answer(l);
     }
-    say(b"\n");
+    let handed = show(b"\n", 1);
+    handed.written
 }
 
 fn is_request(l: &[u8]) -> bool {

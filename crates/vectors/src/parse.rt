@@ -2,16 +2,16 @@
 //
 // Offers: `find`; `spaces`, `word`, `same`; `Number`, `number_of`, `bytes_of`; `Number32`,
 // `word_of`.
-ghost use Prim.Native.Nat.{_≤_};
+use base::least;
+ghost use Prim.Native.Nat.{_≤_, min};
 ghost use lib.ListN.{length};
 ghost use Rattle.vectors.specs.Counts.{stored};
 
 // Where `mark` first stands in `text` from `from` on, or the text's end.
 pub fn find(text: &[u8], from: usize, mark: u8) -> usize
-    requires { ⌜ from ≤ length (now text) ⌝ }
-    ensures { λ r. ⌜ (from ≤ r) × (r ≤ length (now (text .entry))) ⌝ }
+    ensures { λ r. ⌜ (min from (length (now (text .entry))) ≤ r) × (r ≤ length (now (text .entry))) ⌝ }
 {
-    let mut i = from;
+    let mut i = least(from, text.len());
     while i < text.len() {
         if text[i] == mark {
             return i;

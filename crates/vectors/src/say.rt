@@ -4,42 +4,37 @@
 use base::Refusal;
 use base::Written;
 use libc::STDOUT_FILENO;
+use text::parts::part;
 use wire::Checked;
 use wire::Frame;
 use wire::Framing;
-ghost use Prim.Native.Nat.{_≤_};
-ghost use lib.ListN.{length};
-ghost use Rattle.base.specs.Output.{bytesOf};
 
+// A text, written to standard output. Whether it was is asked at a line's end, where it is said.
 pub fn say(text: &[u8]) {
     io::write_all(STDOUT_FILENO, text);
 }
 
 // The front of a text, as long as the call that wrote it says.
-fn say_text(answer: Written, text: &[u8])
-    requires { ⌜ bytesOf answer ≤ length (now text) ⌝ }
-{
+fn say_text(answer: Written, text: &[u8]) {
     if let Written::Bytes(n) = answer {
-        say(&text[0..n]);
+        say(part(text, 0, n));
     }
 }
 
 fn say_decimal(n: u64) {
     let mut text = [0u8; 20];
-    let answer = lines::decimal(n, &mut text);
+    let answer = text::decimal(n, &mut text);
     say_text(answer, &text);
 }
 
 // At most 40 bytes, in hex; `-` for none, as in a request.
-pub fn say_hex(bytes: &[u8])
-    requires { ⌜ length (now bytes) ≤ 40 ⌝ }
-{
+pub fn say_hex(bytes: &[u8]) {
     if bytes.len() == 0 {
         say(b"-");
         return;
     }
     let mut text = [0u8; 80];
-    let answer = lines::hex(bytes, &mut text);
+    let answer = text::hex(bytes, &mut text);
     say_text(answer, &text);
 }
 

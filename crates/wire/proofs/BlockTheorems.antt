@@ -25,7 +25,7 @@ use Rattle.crc.specs.Flip.{flip}
 use Rattle.crc.proofs.Bits.{bits-below, bits-octets, bits-take, bits-drop, onward-bits, length-bits, length-octets, octets-below}
 use Rattle.crc.proofs.Flips.{flip-below, flip-found}
 use Rattle.crc.proofs.Steps.{low16, p16}
-use Rattle.wire.specs.Blocks.{longest, blockOf, blockWritten, carried, told, checkedOf}
+use Rattle.wire.specs.Blocks.{longestBlock, blockOf, blockWritten, payloadOf, crcIn, checkedOf}
 use Rattle.wire.specs.Flipped.{flipped}
 use Rattle.wire.specs.declared.Checked.{Checked}
 use Rattle.wire.specs.declared.Checked.the-variants.{Payload, Refused}
@@ -33,7 +33,7 @@ use Rattle.wire.specs.declared.Checked.the-variants.{Payload, Refused}
 -- ---- by the tests of the rule
 -- a block of a good length is judged by its CRC16 alone
 judged : (b : List ℕ) → 3 ≤ length b → length b ≤ 2050
-    → checkedOf b ≡ unless (eqb (told b) (crc16 (carried b))) (Refused (by 17)) (Payload (length b - 2))
+    → checkedOf b ≡ unless (eqb (crcIn b) (crc16 (payloadOf b))) (Refused (by 17)) (Payload (length b - 2))
 unfolding checkedOf
 judged b lo hi = simp (le-leb 3 (length b) lo, le-leb (length b) 2050 hi)
 
@@ -43,20 +43,20 @@ no-refusal r n e = clash cc
 pub record Good (b : List ℕ) (n : ℕ) : Type 0 where
   pub low : 3 ≤ length b
   pub high : length b ≤ 2050
-  pub crc : told b ≡ crc16 (carried b)
+  pub crc : crcIn b ≡ crc16 (payloadOf b)
   pub long : length b - 2 ≡ n
 
 pub good : (b : List ℕ) (n : ℕ) → checkedOf b ≡ Payload n → Good b n
 unfolding checkedOf
 good b n e =
     let t0 = passed (leb 3 (length b)) (Refused (by 5)) _ (Payload n) (no-refusal (by 5) n) e in
-    let t1 = passed (leb (length b) (longest + 2)) (Refused (by 5)) _ (Payload n) (no-refusal (by 5) n) (t0 .1) in
-    let t2 = passed (eqb (told b) (crc16 (carried b))) (Refused (by 17)) _ (Payload n) (no-refusal (by 17) n) (t1 .1) in
+    let t1 = passed (leb (length b) (longestBlock + 2)) (Refused (by 5)) _ (Payload n) (no-refusal (by 5) n) (t0 .1) in
+    let t2 = passed (eqb (crcIn b) (crc16 (payloadOf b))) (Refused (by 17)) _ (Payload n) (no-refusal (by 17) n) (t1 .1) in
     let last : _≡_ {A = Checked} (Payload (length b - 2)) (Payload n) = t2 .1 in
     record {
       low = leb-true 3 (length b) (t0 .0);
       high = leb-true (length b) 2050 (t1 .0);
-      crc = eqb-true (told b) (crc16 (carried b)) (t2 .0);
+      crc = eqb-true (crcIn b) (crc16 (payloadOf b)) (t2 .0);
       long = cc;
     }
 
@@ -65,7 +65,7 @@ pub long : (p : List ℕ) → length (blockOf p) ≡ length p + 2
 unfolding blockOf
 long p = length-append p (crc16 p / 256 ∷ crc16 p % 256 ∷ [])
 
-pub check-after-write : (p : List ℕ) → 1 ≤ length p → length p ≤ longest → checkedOf (blockOf p) ≡ Payload (length p)
+pub check-after-write : (p : List ℕ) → 1 ≤ length p → length p ≤ longestBlock → checkedOf (blockOf p) ≡ Payload (length p)
 unfolding blockOf
 check-after-write p lo hi =
     let v : ℕ = crc16 p in
@@ -81,11 +81,11 @@ check-after-write p lo hi =
     ∙ simp (e2, e1, hi8, lo8, take-append-seam p vs, w, eq-eqb v v refl)
 
 -- the same of what a call leaves at the front of any output that is long enough
-pub check-back : (p out : List ℕ) → 1 ≤ length p → length p ≤ longest → length p + 2 ≤ length out
+pub check-back : (p out : List ℕ) → 1 ≤ length p → length p ≤ longestBlock → length p + 2 ≤ length out
     → checkedOf (take (length p + 2) (laid (blockWritten p out) (blockOf p) out)) ≡ Payload (length p)
 unfolding blockWritten
 check-back p out lo hi ho =
-    simp (le-leb 1 (length p) lo, le-leb (length p) longest hi)
+    simp (le-leb 1 (length p) lo, le-leb (length p) longestBlock hi)
     (ap checkedOf (front (blockOf p) out (length p + 2) (long p) ho) ∙ check-after-write p lo hi)
 
 -- ---- any block that checks is the one that the writer gives
@@ -112,15 +112,15 @@ pub write-after-check : (b : List ℕ) → Below 256 b → (n : ℕ) → checked
 unfolding blockOf
 write-after-check b bb n e =
     let g = good b n e in
-    let v : ℕ = crc16 (carried b) in
+    let v : ℕ = crc16 (payloadOf b) in
     let x : ℕ = getD b (length b - 2) 0 in
     let y : ℕ = getD b (length b - 1) 0 in
     let hx : x < 256 = getD-below 256 b (length b - 2) (omega arith) bb in
     let hy : y < 256 = getD-below 256 b (length b - 1) (omega arith) bb in
     let ex : x ≡ v / 256 = omega (arith, g .crc) in
     let ey : y ≡ v % 256 = omega (arith, g .crc) in
-    let split : b ≡ carried b ++ (v / 256 ∷ v % 256 ∷ []) =
-    sym (take-append-drop (length b - 2) b) ∙ ap (λ (l : List ℕ). carried b ++ l) (last-two b (omega (arith, g .low)) ∙ ap₂ (λ (p q : ℕ). p ∷ q ∷ []) ex ey)
+    let split : b ≡ payloadOf b ++ (v / 256 ∷ v % 256 ∷ []) =
+    sym (take-append-drop (length b - 2) b) ∙ ap (λ (l : List ℕ). payloadOf b ++ l) (last-two b (omega (arith, g .low)) ∙ ap₂ (λ (p q : ℕ). p ∷ q ∷ []) ex ey)
     in
     subst (λ (k : ℕ). b ≡ take k b ++ (crc16 (take k b) / 256 ∷ crc16 (take k b) % 256 ∷ [])) (g .long) split
 
@@ -131,7 +131,7 @@ pair x y hx hy = onward-bits 0 x (y ∷ []) hx ∙ onward-bits (0 * 256 + x) y [
 
 -- the rule of the CRC16, by the bits of the block: what stands after the payload's bits is their remainder
 rule : (b : List ℕ) → Below 256 b → 2 ≤ length b
-    → (told b ≡ crc16 (carried b))
+    → (crcIn b ≡ crc16 (payloadOf b))
     ≡ (spelt (drop ((length b - 2) * 8) (bits b)) ≡ remainder 16 generator16 (take ((length b - 2) * 8) (bits b)))
 unfolding crc16 checkSum
 rule b bb h =
@@ -159,11 +159,11 @@ flip-refused b bb n e k hk =
     let bc : bits c ≡ v = bits-octets (length b) v lv bv in
     let low = g .low in
     let high = g .high in
-    let wrong : told c ≡ crc16 (carried c) → ⊥ = λ (f : told c ≡ crc16 (carried c)).
+    let wrong : crcIn c ≡ crc16 (payloadOf c) → ⊥ = λ (f : crcIn c ≡ crc16 (payloadOf c)).
     flip-found 16 low16 p16 refl m k w (bits-below b) (lw ∙ omega arith) (omega arith)
     (subst (λ (P : Type 0). P) (rule b bb (omega arith)) (g .crc))
     (subst (λ (l : List ℕ). spelt (drop m l) ≡ remainder 16 generator16 (take m l)) bc
     (subst (λ (j : ℕ). spelt (drop ((j - 2) * 8) (bits c)) ≡ remainder 16 generator16 (take ((j - 2) * 8) (bits c))) lc
     (subst (λ (P : Type 0). P) (rule c (octets-below (length b) v lv bv) (omega arith)) f)))
     in
-    judged c (omega arith) (omega arith) ∙ simp (ne-eqb (told c) (crc16 (carried c)) wrong)
+    judged c (omega arith) (omega arith) ∙ simp (ne-eqb (crcIn c) (crc16 (payloadOf c)) wrong)

@@ -21,7 +21,7 @@ use Rattle.crc.proofs.Bits.{below-take, bits-below, bits-octets, length-bits, l
 use Rattle.crc.proofs.Flips.{flip-below, flip-found}
 use Rattle.crc.proofs.Steps.{low7, p7}
 use Rattle.wire.specs.Flipped.{flipped, framingBit}
-use Rattle.wire.specs.Frames.{crc7Of, field, sentOf, framingOf, checked, frameOf}
+use Rattle.wire.specs.Frames.{crc7Of, field, fieldsOf, framingOf, checked, frameOf}
 use Rattle.wire.specs.declared.Frame.the-variants.{Command, Refused}
 use Rattle.wire.specs.declared.Framing.the-variants.{Unframed}
 use Rattle.wire.proofs.FrameTheorems.{Sent, read}
@@ -37,20 +37,20 @@ drop-take (suc m) n (x ∷ w) = ap (λ (k : ℕ). drop (suc m) (take k (x ∷ w)
 
 -- how bits are refused, by the first thing that is wrong with them
 module _ (v : List ℕ) where
-  bad-start : field v 0 1 ≡ 1 → checked (sentOf v) ≡ Refused (by 2)
-  unfolding sentOf
+  bad-start : field v 0 1 ≡ 1 → checked (fieldsOf v) ≡ Refused (by 2)
+  unfolding fieldsOf
   bad-start e = simp e
 
-  bad-transmission : field v 0 1 ≡ 0 → field v 1 1 ≡ 0 → checked (sentOf v) ≡ Refused (by 2)
-  unfolding sentOf
+  bad-transmission : field v 0 1 ≡ 0 → field v 1 1 ≡ 0 → checked (fieldsOf v) ≡ Refused (by 2)
+  unfolding fieldsOf
   bad-transmission e0 e1 = simp (e0, e1)
 
-  bad-end : field v 0 1 ≡ 0 → field v 1 1 ≡ 1 → field v 47 1 ≡ 0 → checked (sentOf v) ≡ Refused (by 2)
-  unfolding sentOf
+  bad-end : field v 0 1 ≡ 0 → field v 1 1 ≡ 1 → field v 47 1 ≡ 0 → checked (fieldsOf v) ≡ Refused (by 2)
+  unfolding fieldsOf
   bad-end e0 e1 e47 = simp (e0, e1, e47)
 
-  bad-crc : field v 0 1 ≡ 0 → field v 1 1 ≡ 1 → field v 47 1 ≡ 1 → (field v 40 7 ≡ crc7Of (take 40 v) → ⊥) → checked (sentOf v) ≡ Refused (by 3)
-  unfolding sentOf
+  bad-crc : field v 0 1 ≡ 0 → field v 1 1 ≡ 1 → field v 47 1 ≡ 1 → (field v 40 7 ≡ crc7Of (take 40 v) → ⊥) → checked (fieldsOf v) ≡ Refused (by 3)
+  unfolding fieldsOf
   bad-crc e0 e1 e47 d = simp (e0, e1, e47, ne-eqb (field v 40 7) (crc7Of (take 40 v)) d)
 
 module _ (w : List ℕ) (i a : ℕ) (s : Sent w i a) (b : Below 2 w) (n : length w ≡ 48) (k : ℕ) (hk : k < 48) where
@@ -81,7 +81,7 @@ module _ (w : List ℕ) (i a : ℕ) (s : Sent w i a) (b : Below 2 w) (n : length
       (subst (λ (P : Type 0). P) (crc-of w) (s .crc))
       (subst (λ (v : List ℕ). spelt (drop 40 v) ≡ remainder 7 generator7 (take 40 v)) (first-47 h) (subst (λ (P : Type 0). P) (crc-of (flip k w)) e))
 
-  flip-sent : checked (sentOf (flip k w)) ≡ Refused (by (pick (framingBit k) 2 3))
+  flip-sent : checked (fieldsOf (flip k w)) ≡ Refused (pick (framingBit k) (by 2) (by 3))
   flip-sent =
       cases (eqb k 0)
       (λ (e0 : eqb k 0 ≡ true). simp e0 (bad-start (flip k w) (turned 0 0 (sym (eqb-true k 0 e0)) (s .start))))
@@ -98,7 +98,7 @@ module _ (w : List ℕ) (i a : ℕ) (s : Sent w i a) (b : Below 2 w) (n : length
       let d = eqb-false k 47 n47 in
       simp (n0, n1, n47) (bad-crc (flip k w) start transmission end (wrong (omega arith))))))
 
-pub flip-refused : (f : List ℕ) (i a : ℕ) → frameOf f ≡ Command i a → (k : ℕ) → k < 48 → frameOf (flipped k f) ≡ Refused (by (pick (framingBit k) 2 3))
+pub flip-refused : (f : List ℕ) (i a : ℕ) → frameOf f ≡ Command i a → (k : ℕ) → k < 48 → frameOf (flipped k f) ≡ Refused (pick (framingBit k) (by 2) (by 3))
 unfolding frameOf framingOf
 flip-refused f i a e k hk =
     let r = read f i a e in
@@ -108,5 +108,5 @@ flip-refused f i a e k hk =
     let n48 : length w ≡ 48 = n ∙ ap (λ (m : ℕ). m * 8) (r .0) in
     let six : length (flipped k f) ≡ 6 = length-octets (length f) (flip k w) ∙ r .0 in
     let is : bits (flipped k f) ≡ flip k w = bits-octets (length f) (flip k w) (length-set w k (1 - getD w k 0) ∙ n) (flip-below k w b) in
-    ap₂ (λ (t : Bool) (v : List ℕ). checked (unless t (Unframed (by 1)) (sentOf v))) (eq-eqb (length (flipped k f)) 6 six) is
+    ap₂ (λ (t : Bool) (v : List ℕ). checked (unless t (Unframed (by 1)) (fieldsOf v))) (eq-eqb (length (flipped k f)) 6 six) is
     ∙ flip-sent w i a (r .1) b n48 k hk

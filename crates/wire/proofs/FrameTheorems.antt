@@ -24,7 +24,7 @@ use Rattle.crc.specs.Bits.{bitsOf, bits, spelt, octets, Below}
 use Rattle.crc.proofs.Bits.{below-append, below-take, below-drop, bitsOf-below, bits-below, length-bits, bitsOf-spelt, bits-octets, octets-bits, spelt-bitsOf, spelt-lt}
 use Rattle.crc.proofs.Remainder.{the-remainder}
 use Rattle.crc.proofs.Steps.{low7, p7}
-use Rattle.wire.specs.Frames.{crc7Of, sealed, commandFrame, indexed, field, sentOf, framingOf, checked, frameOf}
+use Rattle.wire.specs.Frames.{crc7Of, sealed, commandFrame, indexed, field, fieldsOf, framingOf, checked, frameOf}
 use Rattle.wire.specs.declared.Frame.the-variants.{Command}
 use Rattle.wire.specs.declared.Framing.{Framing}
 use Rattle.wire.specs.declared.Framing.the-variants.{Framed, Unframed}
@@ -50,8 +50,8 @@ unfolding crc7Of
 crc7-small l b = the-remainder 7 low7 p7 l b .lower
 
 -- they are framed, and their CRC7 is right
-sent-command : (i a : ℕ) → i < 64 → a < 2 ^ 32 → sentOf (commandBits i a) ≡ Framed i a true
-unfolding sentOf sealed
+sent-command : (i a : ℕ) → i < 64 → a < 2 ^ 32 → fieldsOf (commandBits i a) ≡ Framed i a true
+unfolding fieldsOf sealed
 sent-command i a hi ha =
     let l : List ℕ = 0 ∷ 1 ∷ bitsOf 6 i ++ bitsOf 32 a in
     let c : ℕ = crc7Of l in
@@ -62,7 +62,7 @@ sent-command i a hi ha =
 
 pub read-after-write : (i a : ℕ) → i < 64 → a < 2 ^ 32 → frameOf (commandFrame i a) ≡ Command i a
 unfolding frameOf framingOf commandFrame
-read-after-write i a hi ha = ap checked (ap sentOf (command-bits i a) ∙ sent-command i a hi ha)
+read-after-write i a hi ha = ap checked (ap fieldsOf (command-bits i a) ∙ sent-command i a hi ha)
 
 -- the same of what a call leaves at the front of any output that is long enough
 pub read-back : (i a : ℕ) (out : List ℕ) → i < 64 → a < 2 ^ 32 → 6 ≤ length out
@@ -86,8 +86,8 @@ pub record Sent (w : List ℕ) (i a : ℕ) : Type 0 where
 no-refusal : (r : Refusal) (i a : ℕ) → _≡_ {A = Framing} (Unframed r) (Framed i a true) → ⊥
 no-refusal r i a e = clash cc
 
-sent : (w : List ℕ) (i a : ℕ) → sentOf w ≡ Framed i a true → Sent w i a
-unfolding sentOf
+sent : (w : List ℕ) (i a : ℕ) → fieldsOf w ≡ Framed i a true → Sent w i a
+unfolding fieldsOf
 sent w i a e =
     let t0 = passed (eqb (field w 0 1) 0) (Unframed (by 2)) _ (Framed i a true) (no-refusal (by 2) i a) e in
     let t1 = passed (eqb (field w 1 1) 1) (Unframed (by 2)) _ (Framed i a true) (no-refusal (by 2) i a) (t0 .1) in
@@ -111,7 +111,7 @@ framing (Unframed r) i a e = clash cc
 pub read : (f : List ℕ) (i a : ℕ) → frameOf f ≡ Command i a → (length f ≡ 6) × Sent (bits f) i a
 unfolding frameOf framingOf
 read f i a e =
-    let t = passed (eqb (length f) 6) (Unframed (by 1)) (sentOf (bits f)) (Framed i a true) (no-refusal (by 1) i a) (framing (framingOf f) i a e) in
+    let t = passed (eqb (length f) 6) (Unframed (by 1)) (fieldsOf (bits f)) (Framed i a true) (no-refusal (by 1) i a) (framing (framingOf f) i a e) in
     (eqb-true (length f) 6 (t .0), sent (bits f) i a (t .1))
 
 -- ---- any frame that is read is the one that the writer gives

@@ -23,7 +23,7 @@ use Rattle.crc.specs.Bits.{bitsOf, bits, spelt, octets}
 use Rattle.crc.specs.Crc.{checkSum, crc7}
 use Rattle.crc.proofs.Bits.{bits-append, bitsOf-append, bitsOf-low, bitsOf-spelt, onward-bits, bitsOf-below, below-append, octets-bits, spelt-bitsOf}
 use Rattle.crc.proofs.Steps.{crc7-lt}
-use Rattle.wire.specs.Frames.{crc7Of, sealed, field, sentOf, framingOf}
+use Rattle.wire.specs.Frames.{crc7Of, sealed, field, fieldsOf, framingOf}
 use Rattle.wire.specs.Responses.{lastByte, r3Frame}
 use Rattle.wire.specs.declared.Framing.{Framing}
 use Rattle.wire.specs.declared.Framing.the-variants.{Framed, Unframed}
@@ -100,7 +100,7 @@ byBytes b0 b1 b2 b3 b4 b5 =
     (Framed (b0 % 64) (spelt (bits (b1 ∷ b2 ∷ b3 ∷ b4 ∷ []))) (eqb (b5 / 2) (crc7 (b0 ∷ b1 ∷ b2 ∷ b3 ∷ b4 ∷ []))))))
 
 six : (b0 b1 b2 b3 b4 b5 : ℕ) → b0 < 256 → b5 < 256 → framingOf (b0 ∷ b1 ∷ b2 ∷ b3 ∷ b4 ∷ b5 ∷ []) ≡ byBytes b0 b1 b2 b3 b4 b5
-unfolding framingOf sentOf bits
+unfolding framingOf fieldsOf bits
 six b0 b1 b2 b3 b4 b5 h0 h5 =
     let f : List ℕ = bits (b0 ∷ b1 ∷ b2 ∷ b3 ∷ b4 ∷ b5 ∷ []) in
     let start : field f 0 1 ≡ b0 / 128 = omega arith in

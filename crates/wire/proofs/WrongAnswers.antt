@@ -1,10 +1,12 @@
 -- Wrong answers that the promises rule out, each refuted at a sample that antt computes: a call's answer is the definition, so a call
 -- that gave the wrong answer would make the two equal. (Others are tried as must-fail edits; docs/PROMISES.md lists both.)
 --   crc7-of-four          a frame whose CRC7 is taken over its first four bytes
+--   r1-as-a-command-read  an R1 read as a command, since the transmission bit is not tested
 --   command-index-64      a command with an index of 7 bits
 --   r1-as-a-command       an R1 with the transmission bit of a command
 --   r1-index-64           an R1 with an index of 7 bits
 --   r2-in-16-bytes        an R2 written into 16 bytes
+--   r2-lowest-byte-first  an R2 with the register's last byte in front
 --   r3-bit-31-clear       an R3 that shows the OCR as it is
 --   r3-with-a-crc         an R3 closed by its CRC7
 --   last-without-end-bit  a register closed by its CRC7 and a 0
@@ -15,8 +17,12 @@
 --   sum-of-the-block      a check whose CRC16 is taken over the CRC16 too
 --   every-block           a check that takes every block of a good length
 --   length-of-the-block   a check that tells the length of the block and not of its payload
+-- and samples from document 01, "Proved together, and run":
+--   cmd16-of-512          "500000020015 is CMD16 of 512": an argument with its bytes in another order gives another frame
+--   answer-to-cmd16       "10000009000B answers it": so does a status
+--   block-of-80           "payload 80 has CRC16 9188", high byte first: so does a CRC16 with its low byte in front
 -- Assumes nothing.
-use mathlib.Core.Path.{_≡_, ap}
+use mathlib.Core.Path.{_≡_, refl, ap}
 use mathlib.Core.Bool.{true, false}
 use mathlib.Core.List.{List, [], _∷_, _++_}
 use Prim.Native.Nat.{ℕ, _+_, _*_}
@@ -28,8 +34,8 @@ use Rattle.base.specs.Refusals.{by}
 use Rattle.base.specs.declared.Written.the-variants.{Bytes}
 use Rattle.crc.specs.Bits.{bitsOf, bits, octets}
 use Rattle.crc.specs.Crc.{divide, remainder, checkSum, crc7, crc16}
-use Rattle.wire.specs.Blocks.{blockWritten, checkedOf}
-use Rattle.wire.specs.Frames.{crc7Of, sealed, commandFrame, indexed, sentOf, framingOf}
+use Rattle.wire.specs.Blocks.{blockOf, blockWritten, checkedOf}
+use Rattle.wire.specs.Frames.{crc7Of, sealed, commandFrame, indexed, fieldsOf, framingOf}
 use Rattle.wire.specs.Responses.{r1Frame, r2Frame, r3Frame, lastByte, registerRight}
 use Rattle.wire.specs.declared.Checked.the-variants.{Payload, Refused}
 use Rattle.wire.specs.declared.Framing.the-variants.{Framed}
@@ -47,8 +53,12 @@ abbrev a3 : R3
 a3 = record { ocr = 0x00FF8000 }
 
 crc7-of-four : framingOf (0x40 ∷ 0x00 ∷ 0x00 ∷ 0x00 ∷ 0x00 ∷ 0x95 ∷ []) ≡ Framed 0 0 false → ⊥
-unfolding framingOf sentOf crc7Of remainder divide bits
+unfolding framingOf fieldsOf crc7Of remainder divide bits
 crc7-of-four e = clash cc
+
+r1-as-a-command-read : framingOf (0x10 ∷ 0x00 ∷ 0x00 ∷ 0x09 ∷ 0x00 ∷ 0x0B ∷ []) ≡ Framed 16 0x00000900 true → ⊥
+unfolding framingOf fieldsOf bits
+r1-as-a-command-read e = clash cc
 
 command-index-64 : indexed 64 (commandFrame 64 0) (replicate 6 0) ≡ Bytes 6 → ⊥
 command-index-64 e = clash cc
@@ -63,6 +73,14 @@ r1-index-64 e = clash cc
 r2-in-16-bytes : fits (r2Frame a2) (replicate 16 0) ≡ Bytes 17 → ⊥
 unfolding r2Frame
 r2-in-16-bytes e = clash cc
+
+-- a register of the bytes 0 to 15
+abbrev ascending : R2
+ascending = record { register = 0 ∷ 1 ∷ 2 ∷ 3 ∷ 4 ∷ 5 ∷ 6 ∷ 7 ∷ 8 ∷ 9 ∷ 10 ∷ 11 ∷ 12 ∷ 13 ∷ 14 ∷ 15 ∷ [] }
+
+r2-lowest-byte-first : getD (r2Frame ascending) 1 0 ≡ 15 → ⊥
+unfolding r2Frame
+r2-lowest-byte-first e = omega arith
 
 r3-bit-31-clear : r3Frame a3 ≡ 0x3F ∷ octets 4 (bitsOf 32 0x00FF8000) ++ (0xFF ∷ []) → ⊥
 unfolding r3Frame
@@ -103,3 +121,15 @@ every-block e = clash cc
 length-of-the-block : checkedOf (0x80 ∷ 0x91 ∷ 0x88 ∷ []) ≡ Payload 3 → ⊥
 unfolding checkedOf crc16 checkSum remainder divide bits
 length-of-the-block e = let z : _≡_ {A = ℕ} 1 3 = cc in omega arith
+
+pub cmd16-of-512 : commandFrame 16 512 ≡ 0x50 ∷ 0x00 ∷ 0x00 ∷ 0x02 ∷ 0x00 ∷ 0x15 ∷ []
+unfolding commandFrame sealed crc7Of remainder divide
+cmd16-of-512 = refl
+
+pub answer-to-cmd16 : r1Frame a1 ≡ 0x10 ∷ 0x00 ∷ 0x00 ∷ 0x09 ∷ 0x00 ∷ 0x0B ∷ []
+unfolding r1Frame sealed crc7Of remainder divide
+answer-to-cmd16 = refl
+
+pub block-of-80 : blockOf (0x80 ∷ []) ≡ 0x80 ∷ 0x91 ∷ 0x88 ∷ []
+unfolding blockOf crc16 checkSum remainder divide bits
+block-of-80 = refl

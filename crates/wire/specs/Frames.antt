@@ -38,8 +38,8 @@ field sent k w = spelt (take w (drop k sent))
 
 -- 2: of the 48 bits sent the start bit is 0, the transmission bit 1 and the end bit 1, each tested for itself.
 -- Bits that are framed so have an index, an argument, and a CRC7 that is right or wrong.
-unfoldable pub sentOf : List ℕ → Framing
-sentOf sent =
+unfoldable pub fieldsOf : List ℕ → Framing
+fieldsOf sent =
     unless (eqb (field sent 0 1) 0) (Unframed (by 2))
     (unless (eqb (field sent 1 1) 1) (Unframed (by 2))
     (unless (eqb (field sent 47 1) 1) (Unframed (by 2))
@@ -47,7 +47,7 @@ sentOf sent =
 
 -- 1: a frame is 6 bytes
 unfoldable pub framingOf : List ℕ → Framing
-framingOf frame = unless (eqb (length frame) 6) (Unframed (by 1)) (sentOf (bits frame))
+framingOf frame = unless (eqb (length frame) 6) (Unframed (by 1)) (fieldsOf (bits frame))
 
 -- 3: the CRC7 is right
 abbrev pub checked : Framing → Frame

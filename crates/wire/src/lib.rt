@@ -3,9 +3,10 @@
 // blocks written and checked. No call has a `requires`: what is wrong is refused by its number.
 //
 // Offers: `unframe`, `read_frame`, `write_command`; `R1`, `R2`, `R3`, `write_r1`, `write_r2`,
-// `write_r3`; `last_byte`, `register_right`; `write_block`, `check_block`.
+// `write_r3`; `last_byte`, `register_right`; `LONGEST_BLOCK`, `write_block`, `check_block`.
 use base::Refusal;
 use base::Written;
+use base::copy;
 ghost use mathlib.Core.Path.{_≡_};
 ghost use mathlib.Core.List.{[], _∷_, _++_};
 ghost use Prim.Native.Nat.{_+_, _*_, _≤_};
@@ -45,6 +46,12 @@ pub struct R2 {
 pub struct R3 {
     pub ocr: u32,
 }
+
+// The most bytes that a data block carries.
+pub const LONGEST_BLOCK: usize = 2048;
+
+// With its CRC16 behind it.
+const LONGEST_CHECKED: usize = LONGEST_BLOCK + 2;
 
 // How many bytes of payload a checked block carries, or the refusal.
 pub enum Checked {
@@ -177,11 +184,7 @@ pub fn write_r2(r2: R2, out: &mut [u8]) -> Written
     }
     let register = r2.register;
     out[0] = 0x3F;
-    let mut i: usize = 0;
-    while i < 16 {
-        out[1 + i] = register[i];
-        i += 1;
-    }
+    copy(&register, out, 1);
     Written::Bytes(17)
 }
 
@@ -203,7 +206,7 @@ pub fn write_r3(r3: R3, out: &mut [u8]) -> Written
     Written::Bytes(6)
 }
 
-// A block written: 5, 6. The payload is copied and summed in one pass.
+// A block written: 5, 6.
 pub fn write_block(payload: &[u8], out: &mut [u8]) -> Written
     ensures answer { λ r. ⌜ r ≡ blockWritten (now (payload .entry)) (now (out .entry)) ⌝ }
     ensures output { λ r. ⌜ now (out .exit) ≡ laid r (blockOf (now (payload .entry))) (now (out .entry)) ⌝ }
@@ -212,13 +215,14 @@ pub fn write_block(payload: &[u8], out: &mut [u8]) -> Written
     if n < 1 {
         return Written::Refused(Refusal::PayloadLength);
     }
-    if 2048 < n {
+    if LONGEST_BLOCK < n {
         return Written::Refused(Refusal::PayloadLength);
     }
     if out.len() < n + 2 {
         return Written::Refused(Refusal::OutputShort);
     }
-    let sum = crc::copy_crc16(payload, out);
+    copy(payload, out, 0);
+    let sum = crc::crc16(payload);
     out[n] = (sum / 256) as u8;
     out[n + 1] = (sum % 256) as u8;
     Written::Bytes(n + 2)
@@ -239,7 +243,7 @@ pub fn check_block(block: &[u8]) -> Checked
     if n < 3 {
         return Checked::Refused(Refusal::PayloadLength);
     }
-    if 2050 < n {
+    if LONGEST_CHECKED < n {
         return Checked::Refused(Refusal::PayloadLength);
     }
     let m = n - 2;

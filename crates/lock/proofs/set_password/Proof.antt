@@ -9,7 +9,7 @@ use borrow.Author.Needs.{needs}
 use borrow.Author.Tests.{not-true, not-false}
 use denote.Ref.{now}
 use lib.ListN.{length, drop, length-take}
-use Rattle.lock.specs.Requests.{told, whole, settable}
+use Rattle.lock.specs.Requests.{passwordLength, longEnough, settable}
 use Rattle.lock.specs.declared.Answer.the-variants.{Granted}
 use Rattle.lock.specs.declared.Lock.{Lock}
 use Rattle.lock.proofs.Carried.{enough, new-part, settable-parts}
@@ -23,10 +23,10 @@ is-settable : (c : tie.Else1) → settable (c .before .before .before .args .loc
 is-settable c = sym (c .before .settable .ensures) ∙ not-false (c .before .settable .result) (c .if1 .left)
 
 -- a new password of 1 to 16 bytes stands in the block behind the old one
-parts : (c : tie.After-held) → (whole (payload c) ≡ true) × (c .held .result + 1 ≤ told (payload c)) × (told (payload c) ≤ c .held .result + 16)
+parts : (c : tie.After-held) → (longEnough (payload c) ≡ true) × (c .held .result + 1 ≤ passwordLength (payload c)) × (passwordLength (payload c) ≤ c .held .result + 16)
 parts c = settable-parts (c .before .before .before .before .args .lock) (payload c) (c .held .result) (c .held .ensures .0) (is-settable (c .before))
 
-ends : (c : tie.After-held) → 2 + told (payload c) ≤ length (payload c)
+ends : (c : tie.After-held) → 2 + passwordLength (payload c) ≤ length (payload c)
 ends c = enough (payload c) (parts c .0)
 
 returns : tie.Need-returns
@@ -54,5 +54,5 @@ set-password-spec =
     (λ c. omega (arith, ends (c .before), parts (c .before)))
     (λ c. omega (arith, ends (c .before), parts (c .before)))
     (λ c. omega (arith, ends (c .before), parts (c .before)))
-    (λ c κs. omega (arith, length-take (2 + told (payload (c .before .before)) - (2 + c .before .before .held .result)) (drop (2 + c .before .before .held .result) (payload (c .before .before))), parts (c .before .before)))
+    (λ c κs. omega (arith, length-take (2 + passwordLength (payload (c .before .before)) - (2 + c .before .before .held .result)) (drop (2 + c .before .before .held .result) (payload (c .before .before))), parts (c .before .before)))
     returns-2)

@@ -6,7 +6,7 @@ use Prim.Native.Nat.{ℕ, _≤_, _<_, _-_}
 use native.Mathlib.Omega.{arith}
 use borrow.Author.Needs.{needs}
 use lib.ListN.{length, take, drop, replicate, length-map}
-use Rattle.record.specs.declared.Card.{Card}
+use Rattle.card_record.specs.declared.Card.{Card}
 use Rattle.measured_bus.proofs.Turns.{filled-turn, filled-all}
 use Rattle.measured_bus.proofs.addresses_of.Statement.{statement}
 use Rattle.measured_bus.proofs.addresses_of.Tie as tie

@@ -10,7 +10,7 @@ use lib.Dec.{T, eqb, eqb→eq}
 use lib.ListN.{length, getD}
 use Rattle.base.proofs.Cases.{both, both-left, both-right}
 use Rattle.base.proofs.Table.{every, at}
-use Rattle.states.specs.States.{numberOf}
+use Rattle.states.specs.States.{columnNumber}
 use Rattle.states.specs.declared.Column.{Column}
 use Rattle.states.proofs.Columns.{columnBy, column-placed}
 use Rattle.moves.proofs.Orders.{rowBy, row-placed, moveNumber, movesNumbered}
@@ -39,10 +39,10 @@ ruled table t n row column =
     let line : T (right (rowNumber row) entries) =
     at right [] table t (rowNumber row) (subst⁻¹ (λ (m : ℕ). rowNumber row < m) n (row-placed row .0)) in
     let ten : length entries ≡ 10 = eqb→eq (length entries) 10 (both-left (eqb (length entries) 10) (every (inLine (rowNumber row)) 0 entries) line) in
-    let e = getD entries (numberOf column) entry.Idle in
-    let here : T (inLine (rowNumber row) (numberOf column) e) =
-    at (inLine (rowNumber row)) entry.Idle entries (both-right (eqb (length entries) 10) (every (inLine (rowNumber row)) 0 entries) line) (numberOf column)
-    (subst⁻¹ (λ (m : ℕ). numberOf column < m) ten (column-placed column .0)) in
+    let e = getD entries (columnNumber column) entry.Idle in
+    let here : T (inLine (rowNumber row) (columnNumber column) e) =
+    at (inLine (rowNumber row)) entry.Idle entries (both-right (eqb (length entries) 10) (every (inLine (rowNumber row)) 0 entries) line) (columnNumber column)
+    (subst⁻¹ (λ (m : ℕ). columnNumber column < m) ten (column-placed column .0)) in
     told movesNumbered (meantBy e) (moveOf row column)
     (subst (λ (r : Row). T (stands e r column)) (row-placed row .1)
     (subst (λ (k : Column). T (stands e (rowBy (rowNumber row)) k)) (column-placed column .1) here))

@@ -7,8 +7,8 @@ use mathlib.Core.List.{List, [], _∷_}
 use mathlib.Core.Path.{_≡_, refl, subst}
 use native.Mathlib.Omega.{arith}
 use Prim.Native.Nat.{ℕ, zero, suc, _≤_, _<_, _-_}
-use Rattle.record.specs.Making.{refusedMake}
-use Rattle.record.specs.declared.Card.{Card}
+use Rattle.card_record.specs.Making.{refusedMake}
+use Rattle.card_record.specs.declared.Card.{Card}
 use Rattle.rounds.specs.Demand3.{CidBytes}
 use Rattle.rounds.proofs.well_formed.Statement.{statement}
 use Rattle.rounds.proofs.well_formed.Tie as tie

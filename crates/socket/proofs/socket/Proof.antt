@@ -26,7 +26,7 @@ use denote.Triple.Spec.{Meets, tripleOf}
 use denote.Triple.Table.{entered, cited}
 use denote.Triple.Walked.{goes-dropped, goes-ref, goes-gave-slice, Walks, walked, walk-meets}
 use denote.Exit.{yes}
-use Rattle.record.proofs.Card as T
+use Rattle.card_record.proofs.Card as T
 use Rattle.card.proofs.Call as Q
 use Rattle.card.proofs.Call.Laws as Q′
 use Rattle.card.proofs.step.Symbol as step-def

@@ -10,7 +10,7 @@ use Rattle.status.proofs.word.Statement.{statement}
 use Rattle.status.proofs.word.Tie as tie
 
 ready-lt : (c : tie.After-bit-of) → c .bit-of .result < 2
-ready-lt c = rw (c .bit-of .ensures) (flag-lt (c .before .ready .result))
+ready-lt c = rw (c .bit-of .ensures) (flag-lt (c .before .buffer-empty .result))
 
 locked-lt : (c : tie.After-bit-of2) → c .bit-of2 .result < 2
 locked-lt c = rw (c .bit-of2 .ensures) (flag-lt (c .before .before .before .before .before .args .locked))
@@ -25,7 +25,7 @@ returns c =
       c .bit-of2 .ensures,
       c .before .pending .ensures,
       c .before .before .bit-of .ensures,
-      c .before .before .before .ready .ensures,
+      c .before .before .before .buffer-empty .ensures,
       c .before .before .before .before .number .ensures,
     )
 

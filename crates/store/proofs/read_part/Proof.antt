@@ -1,13 +1,14 @@
 -- `store::read_part` meets its contract. The loop's invariant: the bytes done stand at the front of the output.
 -- Assumes nothing.
 use mathlib.Core.Path.{_≡_, _∙_}
-use mathlib.Core.List.{_++_}
-use Prim.Native.Nat.{_+_, _-_, _≤_, _<_}
+use mathlib.Core.List.{List, _++_}
+use Prim.Native.Nat.{ℕ, _+_, _-_, _≤_, _<_}
 use native.Mathlib.Omega.{arith}
 use borrow.Author.Needs.{needs}
 use borrow.Author.Tests.{le-leb, lt-leb}
 use denote.Ref.{now}
 use lib.ListN.{length, take, drop, length-take, length-drop}
+use Rattle.base.proofs.Copying.{copied-whole}
 use Rattle.store.specs.Memory.{partRead}
 use Rattle.store.proofs.Pasting.{part-turn, part-all}
 use Rattle.store.proofs.read_part.Statement.{statement}
@@ -33,14 +34,11 @@ returns-2 c =
     let no : length (now (a .memory)) < a .at + length (now (a .out)) = omega arith in
     (simp (lt-leb _ _ no), simp (lt-leb _ _ no))
 
-part-put-start : tie.Need-part-put-start Inv-loop μ-loop
-part-put-start c = search needs
+part-copy-start : tie.Need-part-copy-start Inv-loop μ-loop
+part-copy-start c = search needs
 
-part-put-end : tie.Need-part-put-end Inv-loop μ-loop
-part-put-end c = search needs
-
-put-requires : tie.Need-put-requires Inv-loop μ-loop
-put-requires c κs = simp (length-take, length-drop) (omega arith)
+part-copy-end : tie.Need-part-copy-end Inv-loop μ-loop
+part-copy-end c = search needs
 
 loop-again : tie.Need-loop-again Inv-loop μ-loop
 loop-again c =
@@ -49,7 +47,9 @@ loop-again c =
     let l = p .before .before .before .before .before .loop in
     let a = p .before .before .before .before .before .before .before .before .before .before .args in
     let turn = part-turn (now (a .memory)) (now (a .out)) (l .out) (a .at) (l .done) (k .result) (a .at + l .done + k .result - (a .at + l .done)) (omega arith) (omega arith) (l .inv .2) in
-    (search needs, search needs, p .put .ensures ∙ turn)
+    let part : List ℕ = take (a .at + l .done + k .result - (a .at + l .done)) (drop (a .at + l .done) (now (a .memory))) in
+    let fits : l .done + length part ≤ length (l .out) = simp (length-take, length-drop) (omega arith) in
+    (search needs, search needs, p .copy .ensures ∙ copied-whole part (l .out) (l .done) fits ∙ turn)
 
 returns-3 : tie.Need-returns-3 Inv-loop μ-loop
 unfolding partRead
@@ -74,9 +74,9 @@ read-part-spec =
     (λ c κs. search needs)
     (λ c. search needs)
     (λ c. search needs)
-    part-put-start
-    part-put-end
-    put-requires
+    part-copy-start
+    part-copy-end
+    (λ c κs. search needs)
     (λ c. search needs)
     (λ c. search needs)
     loop-again

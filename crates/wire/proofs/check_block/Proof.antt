@@ -9,7 +9,7 @@ use denote.Ref.{now}
 use lib.ListN.{length, take}
 use Rattle.base.proofs.Branch.{tests}
 use Rattle.crc.specs.Crc.{crc16}
-use Rattle.wire.specs.Blocks.{carried, checkedOf}
+use Rattle.wire.specs.Blocks.{payloadOf, checkedOf}
 use Rattle.wire.proofs.check_block.Statement.{statement}
 use Rattle.wire.proofs.check_block.Tie as tie
 
@@ -22,7 +22,7 @@ unfolding checkedOf
 returns-2 c = search tests
 
 -- what the code sums is what the block carries
-sum-is : (c : tie.After-crc16) → c .crc16 .result ≡ crc16 (carried (now (c .before .before .before .before .before .before .before .before .args .block)))
+sum-is : (c : tie.After-crc16) → c .crc16 .result ≡ crc16 (payloadOf (now (c .before .before .before .before .before .before .before .before .args .block)))
 sum-is c =
     let b = now (c .before .before .before .before .before .before .before .before .args .block) in
     c .crc16 .ensures ∙ ap (λ (n : ℕ). crc16 (take n b)) (sub-zero (length b - 2))

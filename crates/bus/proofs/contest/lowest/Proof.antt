@@ -7,12 +7,12 @@ use borrow.Author.Count.{below-more}
 use borrow.Author.Needs.{needs}
 use borrow.Author.Tests.{eq-eqb, ne-eqb}
 use lib.ListN.{length, take, getD, length-map}
-use Rattle.record.specs.declared.Card.{Card}
+use Rattle.card_record.specs.declared.Card.{Card}
 use Rattle.bus.proofs.Lists.{getD-any}
 use Rattle.bus.proofs.Winners.{low-start, low-turn}
 use Rattle.bus.specs.Bus.{countOf}
 use Rattle.bus.specs.Contest.{lowFrom, lowFor, Held}
-use Rattle.line.specs.Lowest.{noLow}
+use Rattle.shared_line.specs.Lowest.{noLow}
 use Rattle.bus.proofs.contest.lowest.Statement.{statement}
 use Rattle.bus.proofs.contest.lowest.Tie as tie
 

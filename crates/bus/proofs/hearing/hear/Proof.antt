@@ -10,7 +10,7 @@ use lib.Seq.{take-at}
 use Rattle.base.specs.Output.{laid}
 use Rattle.base.specs.declared.Written.{Written}
 use Rattle.command.specs.Sending.{sentBytes}
-use Rattle.line.specs.Bytes.{anded}
+use Rattle.shared_line.specs.Bytes.{anded}
 use Rattle.command.proofs.Sends.{written-bytes, never-refused}
 use Rattle.bus.proofs.Telling.{zeros}
 use Rattle.bus.specs.Hearing.{heardOf}

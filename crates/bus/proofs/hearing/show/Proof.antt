@@ -8,7 +8,7 @@ use borrow.Author.Needs.{needs}
 use lib.ListN.{length, take, drop, getD, set}
 use mir.Syntax.{w8}
 use mir.Val.{Fits}
-use Rattle.base.proofs.Copy.{copy-turn}
+use Rattle.base.proofs.Copying.{copy-turn}
 use Rattle.crc.proofs.Bits.{below-all}
 use Rattle.bus.proofs.Telling.{zeros, shown-silent, shown-bytes}
 use Rattle.bus.proofs.hearing.show.Statement.{statement}

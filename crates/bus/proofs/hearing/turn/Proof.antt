@@ -5,9 +5,8 @@ use borrow.Author.Needs.{needs}
 use Rattle.command.proofs.Sends.{sendable}
 use Rattle.command.specs.Sending.{sentBytes, Sendable}
 use Rattle.command.specs.declared.Commanded.{Commanded}
-use Rattle.record.specs.Record.{withLink}
-use Rattle.record.specs.declared.Card.{Card}
-use Rattle.bus.specs.Bus.{metWith}
+use Rattle.card_record.specs.Record.{withLink}
+use Rattle.card_record.specs.declared.Card.{Card}
 use Rattle.bus.specs.Hearing.{heardOf, turnOf}
 use Rattle.bus.specs.declared.Heard.{Heard}
 use Rattle.bus.specs.declared.Turned.{Turned}
@@ -23,7 +22,7 @@ hear-requires c κs =
     let a = s .args in (
       s .pre .0,
       subst (λ (given : Commanded). Sendable (given .sent)) (sym (c .before .before .before .command .ensures))
-          (sendable (a .card .link) (metWith (a .wins) (a .card)) (a .index) (a .argument) (s .pre .1)),
+          (sendable (a .card .link) _ (a .index) (a .argument) (s .pre .1)),
     )
 
 returns : tie.Need-returns

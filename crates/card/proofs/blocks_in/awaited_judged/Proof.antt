@@ -14,11 +14,11 @@ use Rattle.base.proofs.Cases.{passed, cases}
 use Rattle.base.specs.Refusals.{by}
 use Rattle.base.specs.declared.Refusal.{Refusal}
 use Rattle.crc.specs.Crc.{crc16}
-use Rattle.record.specs.Record.{lengthRead}
-use Rattle.record.specs.declared.Card.{Card}
+use Rattle.card_record.specs.Record.{lengthRead}
+use Rattle.card_record.specs.declared.Card.{Card}
 use Rattle.states.specs.declared.Incoming.{Incoming}
 use Rattle.states.specs.declared.Incoming.the-variants.{One, Many, LockRequest}
-use Rattle.wire.specs.Blocks.{longest, told, carried, checkedOf}
+use Rattle.wire.specs.Blocks.{longestBlock, crcIn, payloadOf, checkedOf}
 use Rattle.wire.specs.declared.Checked.{Checked}
 use Rattle.wire.specs.declared.Checked.the-variants.{Payload, Refused}
 use Rattle.card.specs.BlockIn.{carriedOut, awaitedLength, awaitedJudged}
@@ -29,21 +29,21 @@ no-refusal : (r : Refusal) (n : ℕ) → _≡_ {A = Checked} (Refused r) (Payloa
 no-refusal r n e = let z : _≡_ {A = ℕ} 0 1 = cc in omega arith
 
 -- a block that checks has the right CRC16
-crc-right : (b : List ℕ) {n : ℕ} → checkedOf b ≡ Payload n → eqb (told b) (crc16 (carried b)) ≡ true
+crc-right : (b : List ℕ) {n : ℕ} → checkedOf b ≡ Payload n → eqb (crcIn b) (crc16 (payloadOf b)) ≡ true
 unfolding checkedOf
 crc-right b {n} e =
     let t0 = passed (leb 3 (length b)) (Refused (by 5)) _ (Payload n) (no-refusal (by 5) n) e in
-    let t1 = passed (leb (length b) (longest + 2)) (Refused (by 5)) _ (Payload n) (no-refusal (by 5) n) (t0 .1) in
-    passed (eqb (told b) (crc16 (carried b))) (Refused (by 17)) _ (Payload n) (no-refusal (by 17) n) (t1 .1) .0
+    let t1 = passed (leb (length b) (longestBlock + 2)) (Refused (by 5)) _ (Payload n) (no-refusal (by 5) n) (t0 .1) in
+    passed (eqb (crcIn b) (crc16 (payloadOf b))) (Refused (by 17)) _ (Payload n) (no-refusal (by 17) n) (t1 .1) .0
 
 -- one of a block's length that does not check has a wrong one: it is refused by 17 alone
-crc-wrong : (b : List ℕ) {r : Refusal} → 3 ≤ length b → length b ≤ 2050 → checkedOf b ≡ Refused r → eqb (told b) (crc16 (carried b)) ≡ false
+crc-wrong : (b : List ℕ) {r : Refusal} → 3 ≤ length b → length b ≤ 2050 → checkedOf b ≡ Refused r → eqb (crcIn b) (crc16 (payloadOf b)) ≡ false
 unfolding checkedOf
 crc-wrong b {r} lo hi e =
-    cases (eqb (told b) (crc16 (carried b)))
-    (λ (t : eqb (told b) (crc16 (carried b)) ≡ true).
+    cases (eqb (crcIn b) (crc16 (payloadOf b)))
+    (λ (t : eqb (crcIn b) (crc16 (payloadOf b)) ≡ true).
     absurd (no-refusal r (length b - 2) (sym e ∙ simp (le-leb 3 (length b) lo, le-leb (length b) 2050 hi, t))))
-    (λ (t : eqb (told b) (crc16 (carried b)) ≡ false). t)
+    (λ (t : eqb (crcIn b) (crc16 (payloadOf b)) ≡ false). t)
 
 -- the code's end of the payload is the definition's
 payload : (n long : ℕ) → long ≡ n + 2 → n - 0 ≡ long - 2

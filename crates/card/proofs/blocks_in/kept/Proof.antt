@@ -11,7 +11,7 @@ use lib.Dec.{ltb}
 use lib.ListN.{length, take, drop, getD, set, replicate, length-replicate, replicate-append-replicate}
 use lib.Seq.{take-all, drop-at}
 use Rattle.base.proofs.Cases.{cases}
-use Rattle.base.proofs.Copy.{copy-turn}
+use Rattle.base.proofs.Copying.{copy-turn}
 use Rattle.card.specs.BlockIn.{keptOf, keptLength, keptFor}
 use Rattle.card.specs.declared.Storing.{Storing}
 use Rattle.card.specs.declared.Storing.the-variants.{Nothing, Sector, All}

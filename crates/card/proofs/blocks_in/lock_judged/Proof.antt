@@ -9,8 +9,8 @@ use denote.Ref.{now}
 use Rattle.lock.specs.Requests.{requestOf}
 use Rattle.lock.specs.declared.Answer.{Answer}
 use Rattle.lock.specs.declared.Requested.{Requested}
-use Rattle.record.specs.Record.{csdProtects}
-use Rattle.record.specs.declared.Card.{Card}
+use Rattle.card_record.specs.Record.{csdProtects}
+use Rattle.card_record.specs.declared.Card.{Card}
 use Rattle.card.specs.BlockIn.{lockJudged, requestJudged}
 use Rattle.card.proofs.blocks_in.lock_judged.Statement.{statement}
 use Rattle.card.proofs.blocks_in.lock_judged.Tie as tie

@@ -8,7 +8,7 @@ use native.Mathlib.Omega.{arith}
 use borrow.Author.Needs.{needs}
 use borrow.Author.Tests.{le-ltb, lt-ltb}
 use denote.Ref.{now}
-use Rattle.record.specs.Record.{sizeOf}
+use Rattle.card_record.specs.Record.{sizeOf}
 use Rattle.store.specs.Map.{protectedIn}
 use Rattle.card.specs.BlockIn.{writeJudged}
 use Rattle.card.proofs.blocks_in.write_judged.Statement.{statement}

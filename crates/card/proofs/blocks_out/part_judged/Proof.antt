@@ -5,7 +5,7 @@ use Prim.Native.Nat.{_+_, _≤_, _<_}
 use native.Mathlib.Omega.{arith}
 use borrow.Author.Needs.{needs}
 use borrow.Author.Tests.{le-leb, lt-leb}
-use Rattle.record.specs.Record.{sizeOf}
+use Rattle.card_record.specs.Record.{sizeOf}
 use Rattle.card.specs.BlockOut.{partJudged}
 use Rattle.card.proofs.blocks_out.part_judged.Statement.{statement}
 use Rattle.card.proofs.blocks_out.part_judged.Tie as tie

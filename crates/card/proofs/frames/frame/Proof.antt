@@ -8,20 +8,20 @@ use borrow.Author.Needs.{needs}
 use denote.Ref.{now}
 use lib.ListN.{length}
 use Rattle.command.specs.declared.Change.{Change}
-use Rattle.record.specs.declared.Card.{Card}
+use Rattle.card_record.specs.declared.Card.{Card}
 use Rattle.store.specs.Erase.{erased, anySpared}
-use Rattle.card.specs.Frame.{spares, sparedTold, erasedBy, protectedBy, frameJudged, frameOf}
+use Rattle.card.specs.Frame.{spares, sparedTold, erasedBy, protectedBy, frameJudged, frameStepped}
 use Rattle.card.specs.declared.FrameJudged.{FrameJudged}
 use Rattle.card.proofs.frames.frame.Statement.{statement}
 use Rattle.card.proofs.frames.frame.Tie as tie
 
 -- what follows from a change that is known: the answer, and that it is the one that the definition has
-told : (card : Card) (frame : List ℕ) (memory : ℕ) (map : List ℕ) (j : FrameJudged) {change : Change} → j ≡ frameJudged card frame memory map
+told : (card : Card) (wins : Bool) (frame : List ℕ) (memory : ℕ) (map : List ℕ) (j : FrameJudged) {change : Change} → j ≡ frameJudged card wins frame memory map
     → j .change ≡ change
-    → (sparedTold (j .stepped) (spares card memory map change) ≡ frameOf card frame memory map)
-    × (change ≡ frameJudged card frame memory map .change)
-unfolding frameOf
-told card frame memory map j e g = (
+    → (sparedTold (j .stepped) (spares card memory map change) ≡ frameStepped card wins frame memory map)
+    × (change ≡ frameJudged card wins frame memory map .change)
+unfolding frameStepped
+told card wins frame memory map j e g = (
   ap (λ (x : Change). sparedTold (j .stepped) (spares card memory map x)) (sym g)
       ∙ ap (λ (x : FrameJudged). sparedTold (x .stepped) (spares card memory map (x .change))) e,
   sym g ∙ ap (λ (x : FrameJudged). x .change) e,
@@ -33,7 +33,7 @@ returns c =
     let a = j .before .before .before .before .before .args in
     let m = now (a .memory) in
     let p = now (a .map) in
-    let t = told (a .card) (now (a .frame)) (length m) p (j .judge .result) (j .judge .ensures) (c .enum-told .given .1) in
+    let t = told (a .card) (a .wins) (now (a .frame)) (length m) p (j .judge .result) (j .judge .ensures) (c .enum-told .given .1) in
     (t .0, (ap (erasedBy (a .card) m p) (t .1), ap (protectedBy p) (t .1)))
 
 returns-2 : tie.Need-returns-2
@@ -44,7 +44,7 @@ returns-2 c =
     let a = j .before .before .before .before .before .args in
     let m = now (a .memory) in
     let p = now (a .map) in
-    let t = told (a .card) (now (a .frame)) (length m) p (j .judge .result) (j .judge .ensures) (k .change .given .1) in
+    let t = told (a .card) (a .wins) (now (a .frame)) (length m) p (j .judge .result) (j .judge .ensures) (k .change .given .1) in
     (t .0, (ap (erasedBy (a .card) m p) (t .1), s .protect .ensures ∙ ap (protectedBy p) (t .1)))
 
 returns-3 : tie.Need-returns-3
@@ -57,7 +57,7 @@ returns-3 c =
     let m = now (a .memory) in
     let p = now (a .map) in
     let tags = a .card .link .tags in
-    let t = told (a .card) (now (a .frame)) (length m) p (j .judge .result) (j .judge .ensures) (k .enum-told2 .given .1) in
+    let t = told (a .card) (a .wins) (now (a .frame)) (length m) p (j .judge .result) (j .judge .ensures) (k .enum-told2 .given .1) in
     let spared = s .erase .ensures .0 ∙ ap (λ (x : Bool). anySpared p tags x (length m)) (w .csd-protects .ensures) in (
       c .tell-spared .ensures ∙ ap (sparedTold (j .judge .result .stepped)) spared ∙ t .0,
       (

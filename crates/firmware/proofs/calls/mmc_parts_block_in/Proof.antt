@@ -2,26 +2,28 @@
 -- Assumes nothing.
 use borrow.Author.Needs.{needs}
 use Rattle.crossing.proofs.Crossing.{own-cid, own-csd}
-use Rattle.firmware.proofs.Kept.{in-registers}
+use Rattle.firmware.proofs.Kept.{in-registers, in-stays, password-too, stands}
 use Rattle.firmware.proofs.calls.mmc_parts_block_in.Statement.{statement}
 use Rattle.firmware.proofs.calls.mmc_parts_block_in.Tie as tie
 
 returns : tie.Need-returns
 returns c =
-    let t = c .before in
-    let b = t .before .before .before .before .before .before .before .before .before in
-    let taken = b .before .before .before .card-of .ensures in
-    let stepped = b .block-in .ensures .0 in (
-      simp (c .outcome-number .ensures, stepped, taken),
+    let at-number = c .before .before in
+    let at-block = at-number .before .before .before .before .before .before .before .before .before in
+    let taken = at-block .before .before .before .card-of .ensures in
+    let stepped = at-block .block-in .ensures .0 in
+    let after = c .tell-numbers .ensures .0 in
+    let number = at-number .outcome-number .ensures in (
+      simp (number, stepped, taken),
       (
-        simp (t .numbers-of .ensures .0, stepped, taken),
         (
-          simp (stepped, taken),
-          (
-            simp (stepped, taken) (simp (stepped, taken, in-registers, own-cid, own-csd) at (t .numbers-of .ensures .1)),
-            (simp (b .block-in .ensures .1 .0, taken), simp (b .block-in .ensures .1 .1, taken)),
-          ),
+          simp (after, stepped, taken),
+          simp (after, number, stepped, taken)
+              (stands _ _ _ _ _ _
+              (simp (stepped, taken, in-registers, own-cid, own-csd) at (c .tell-numbers .ensures .1))
+              (λ e. password-too _ _ _ _ _ (in-stays _ _ _ _ e))),
         ),
+        (simp (stepped, taken), (simp (at-block .block-in .ensures .1 .0, taken), simp (at-block .block-in .ensures .1 .1, taken))),
       ),
     )
 

@@ -5,35 +5,42 @@ use denote.Ref.{now}
 use Rattle.crc.proofs.Bits.{below-all}
 use Rattle.crc.specs.Bits.{Below}
 use Rattle.crossing.proofs.Crossing.{own-cid, own-csd, own-password}
-use Rattle.firmware.proofs.Kept.{frame-registers, frame-lock}
+use Rattle.firmware.proofs.Kept.{frame-registers, frame-lock, frame-stays, stands}
 use Rattle.firmware.proofs.Sends.{frame-sendable}
 use Rattle.firmware.proofs.calls.mmc_parts_frame.Statement.{statement}
 use Rattle.firmware.proofs.calls.mmc_parts_frame.Tie as tie
 
 send-requires : tie.Need-send-requires
 send-requires c κs =
-    let f = c .before .before .before .before .before .before .before .before in
-    let s = f .before .before .before .before .before .before .before .before .before .before .before in
-    let bytes : Below 256 (now (s .before .args .frame)) = below-all 256 (now (s .before .args .frame)) (λ i. s .shared-slice-known .given i .fits) in
-    rw (f .frame .ensures .0) (frame-sendable _ (now (s .before .args .frame)) _ _ bytes)
+    let at-frame = c .before .before .before .before .before .before .before .before .before .before in
+    let at-input = at-frame .before .before .before .before .before .before .before .before .before .before .before in
+    let frame = now (at-input .before .args .frame) in
+    let bytes : Below 256 frame = below-all 256 frame (λ i. at-input .shared-slice-known .given i .fits) in
+    rw (at-frame .frame .ensures .0) (frame-sendable _ _ frame _ _ bytes)
 
 returns : tie.Need-returns
 returns c =
-    let t = c .before .before .before in
-    let f = t .before .before .before .before .before .before .before in
-    let taken = f .before .before .before .before .card-of .ensures in
-    let stepped = f .frame .ensures .0 in (
-      simp (c .outcome-number .ensures, stepped, taken),
+    let at-told = c .before .before in
+    let at-number = at-told .before .before in
+    let at-frame = at-number .before .before .before .before .before .before .before in
+    let taken = at-frame .before .before .before .before .card-of .ensures in
+    let stepped = at-frame .frame .ensures .0 in
+    let after = at-told .tell-numbers .ensures .0 in
+    let number = at-number .outcome-number .ensures in (
+      simp (number, stepped, taken),
       (
-        simp (t .numbers-of .ensures .0, stepped, taken),
         (
-          simp (stepped, taken, frame-registers, frame-lock, own-cid, own-csd, own-password) at (t .numbers-of .ensures .1),
+          simp (after, stepped, taken),
+          simp (after, number, stepped, taken)
+              (stands _ _ _ _ _ _
+              (simp (stepped, taken, frame-registers, frame-lock, own-cid, own-csd, own-password) at (at-told .tell-numbers .ensures .1))
+              (frame-stays _ _ _ _ _)),
+        ),
+        (
+          simp (at-frame .frame .ensures .1 .0, taken),
           (
-            simp (f .frame .ensures .1 .0, taken),
-            (
-              simp (f .frame .ensures .1 .1, taken),
-              (simp (c .before .send .ensures .1, stepped, taken), simp (c .before .send .ensures .0, stepped, taken)),
-            ),
+            simp (at-frame .frame .ensures .1 .1, taken),
+            (simp (c .send .ensures .1, stepped, taken), simp (c .send .ensures .0, stepped, taken)),
           ),
         ),
       ),
@@ -46,8 +53,8 @@ mmc-parts-frame-spec =
     (λ c κs. search needs)
     (λ c κs. search needs)
     (λ c κs. search needs)
-    send-requires
     (λ c κs. search needs)
+    send-requires
     (λ c. search needs)
     (λ c. search needs)
     returns)

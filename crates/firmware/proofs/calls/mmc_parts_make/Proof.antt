@@ -9,7 +9,7 @@ returns c =
     let t = c .before .numbers-of in
     let made = c .before .before .before .before .before .before .before .before .make .ensures in (
       simp (c .making-number .ensures, made),
-      (simp (t .ensures .0, made), (simp made, (simp made, (simp made, simp made (simp made at (t .ensures .1)))))),
+      ((simp (t .ensures .0, made), simp made (simp made at (t .ensures .1))), (simp made, (simp made, simp made))),
     )
 
 pub mmc-parts-make-spec : {M : Type 1} → statement M

@@ -45,12 +45,12 @@ use denote.Triple.Clauses.{ensured, lasts}
 use denote.Triple.Walked.{Stays, stay-ref, stay-dropped, gave-slice, walkOf, ends-at}
 use denote.Exit.{yes}
 use Rattle.card.specs.Step.{stepOf, memoryOf, mapOf, outputOf}
-use Rattle.record.specs.declared.Card.{Card}
+use Rattle.card_record.specs.declared.Card.{Card}
 use Rattle.card.specs.declared.Call.{Call}
 use Rattle.card.specs.declared.Stepped.{Stepped}
 use Rattle.card.specs.declared.Reply.{Reply}
-use Rattle.record.proofs.Card as T
-use Rattle.record.proofs.Card.Laws as T′
+use Rattle.card_record.proofs.Card as T
+use Rattle.card_record.proofs.Card.Laws as T′
 use Rattle.card.proofs.Call as Q
 use Rattle.card.proofs.Call.Laws as Q′
 use Rattle.card.proofs.Stepped as K

@@ -1,4 +1,0 @@
-pub mod Enough
-pub mod Lending
-pub mod Sending
-pub mod WrongAnswers

@@ -1,8 +1,0 @@
--- `bench::worlds::with_lent` meets its contract: one field is another.
--- Assumes nothing.
-use borrow.Author.Needs.{needs}
-use Rattle.bench.proofs.worlds.with_lent.Statement.{statement}
-use Rattle.bench.proofs.worlds.with_lent.Tie as tie
-
-pub with-lent-spec : {M : Type 1} → statement M
-with-lent-spec = tie.close (tie.spec (λ c. search needs))

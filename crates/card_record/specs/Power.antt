@@ -1,0 +1,39 @@
+-- Document 01, "How a card takes a frame": power-on and work done.
+-- Assumes nothing.
+use Prim.Native.Nat.{ℕ}
+use Rattle.lock.specs.Passwords.{poweredOf}
+use Rattle.states.specs.declared.State.{State}
+use Rattle.states.specs.declared.State.the-variants.{Idle, Ready, Ident, Stby, Tran, Data, Rcv, Prg, Dis, Ina}
+use Rattle.status.specs.Status.{noErrors}
+use Rattle.tags.specs.Tagging.{noTags}
+use Rattle.card_record.specs.Record.{withState, withLink}
+use Rattle.card_record.specs.declared.Card.{Card}
+use Rattle.card_record.specs.declared.Link.{Link}
+
+-- "block length 512" after a reset: a name of its own, since a sector is 512 bytes for another reason
+abbrev pub defaultLength : ℕ
+defaultLength = 512
+
+-- "Idle, address 1 (003), block length 512, no tags or error bits"
+unfoldable pub freshLink : Link
+freshLink = record { state = Idle; address = 1; length = defaultLength; errors = noErrors; tags = noTags }
+
+-- "Power-on, from any state: Idle, .., locked exactly if a password is stored"
+unfoldable pub poweredOn : Card → Card
+poweredOn card = record { registers = card .registers; lock = poweredOf (card .lock); link = freshLink }
+
+-- "Work done takes prg to tran and dis to stby, and changes no other state"
+abbrev pub workedState : State → State
+workedState Idle = Idle
+workedState Ready = Ready
+workedState Ident = Ident
+workedState Stby = Stby
+workedState Tran = Tran
+workedState (Data outgoing) = Data outgoing
+workedState (Rcv incoming) = Rcv incoming
+workedState Prg = Tran
+workedState Dis = Stby
+workedState Ina = Ina
+
+unfoldable pub worked : Card → Card
+worked card = withLink card (withState (card .link) (workedState (card .link .state)))

@@ -1,9 +1,0 @@
--- `cardline::main` is safe: the buffer is as long as its array.
--- Assumes nothing.
-use borrow.Author.Needs.{needs}
-use Rattle.tape.proofs.Buffers.{zeros}
-use Rattle.cardline.proofs.main.Statement.{statement}
-use Rattle.cardline.proofs.main.Tie as tie
-
-pub main-spec : {M : Type 1} → statement M
-main-spec = tie.close (tie.spec (λ c. zeros 2097152) (λ c κs. search needs) (λ c. search needs))

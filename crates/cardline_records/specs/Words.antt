@@ -1,0 +1,44 @@
+-- The words that only lines of `cardline` have.
+-- Assumes nothing.
+use mathlib.Core.List.{List}
+use Prim.Native.Nat.{ℕ}
+use Rattle.text.specs.Words.{ascii}
+
+abbrev pub madeWord : List ℕ
+madeWord = ascii "made"
+
+abbrev pub noCardWord : List ℕ
+noCardWord = ascii "no card"
+
+abbrev pub tooBigWord : List ℕ
+tooBigWord = ascii "too big"
+
+abbrev pub takenWord : List ℕ
+takenWord = ascii "taken"
+
+abbrev pub blockWord : List ℕ
+blockWord = ascii "block"
+
+abbrev pub doneWord : List ℕ
+doneWord = ascii "done"
+
+abbrev pub powerWord : List ℕ
+powerWord = ascii "power"
+
+abbrev pub memWord : List ℕ
+memWord = ascii "mem"
+
+abbrev pub lentWord : List ℕ
+lentWord = ascii "lent"
+
+abbrev pub pokedWord : List ℕ
+pokedWord = ascii "poked"
+
+abbrev pub frameWord : List ℕ
+frameWord = ascii "frame"
+
+abbrev pub dataWord : List ℕ
+dataWord = ascii "data"
+
+abbrev pub goodWord : List ℕ
+goodWord = ascii "good"

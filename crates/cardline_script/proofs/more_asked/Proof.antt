@@ -1,0 +1,56 @@
+-- `cardline_script::more_asked` meets its contract: each return is told its test.
+-- Assumes nothing.
+use borrow.Author.Needs.{needs}
+use borrow.Author.Tests.{eq-eqb, ne-eqb}
+use Rattle.cardline_script.specs.Reading.{moreAsked}
+use Rattle.cardline_script.proofs.more_asked.Statement.{statement}
+use Rattle.cardline_script.proofs.more_asked.Tie as tie
+
+returns : tie.Need-returns
+unfolding moreAsked
+returns c = simp (c .frame-asked .ensures, eq-eqb _ _ (c .before .if1 .taken))
+
+returns-2 : tie.Need-returns-2
+unfolding moreAsked
+returns-2 c = simp (c .counted-asked .ensures, c .before .two .ensures, eq-eqb _ _ (c .before .before .if2 .taken), ne-eqb _ _ (c .before .before .before .if1 .left))
+
+returns-3 : tie.Need-returns-3
+unfolding moreAsked
+returns-3 c = simp (c .block-out-asked .ensures, eq-eqb _ _ (c .before .if3 .taken), ne-eqb _ _ (c .before .before .if2 .left), ne-eqb _ _ (c .before .before .before .if1 .left))
+
+returns-4 : tie.Need-returns-4
+unfolding moreAsked
+returns-4 c = simp (eq-eqb _ _ (c .if4 .taken), ne-eqb _ _ (c .before .if3 .left), ne-eqb _ _ (c .before .before .if2 .left), ne-eqb _ _ (c .before .before .before .if1 .left))
+
+returns-5 : tie.Need-returns-5
+unfolding moreAsked
+returns-5 c = simp (eq-eqb _ _ (c .if5 .taken), ne-eqb _ _ (c .before .if4 .left), ne-eqb _ _ (c .before .before .if3 .left), ne-eqb _ _ (c .before .before .before .if2 .left), ne-eqb _ _ (c .before .before .before .before .if1 .left))
+
+returns-6 : tie.Need-returns-6
+unfolding moreAsked
+returns-6 c = simp (eq-eqb _ _ (c .if6 .taken), ne-eqb _ _ (c .before .if5 .left), ne-eqb _ _ (c .before .before .if4 .left), ne-eqb _ _ (c .before .before .before .if3 .left), ne-eqb _ _ (c .before .before .before .before .if2 .left), ne-eqb _ _ (c .before .before .before .before .before .if1 .left))
+
+returns-7 : tie.Need-returns-7
+unfolding moreAsked
+returns-7 c =
+    let at-if3 = c .before .before .before .before in
+    let at-if2 = at-if3 .before in
+    let at-if1 = at-if2 .before in
+    simp (c .shown-asked .ensures, ne-eqb _ _ (c .before .if6 .left), ne-eqb _ _ (c .before .before .if5 .left), ne-eqb _ _ (c .before .before .before .if4 .left), ne-eqb _ _ (at-if3 .if3 .left), ne-eqb _ _ (at-if2 .if2 .left), ne-eqb _ _ (at-if1 .if1 .left))
+
+pub more-asked-spec : {M : Type 1} → statement M
+more-asked-spec =
+    tie.close
+    (tie.spec
+    (λ c κs. search needs)
+    returns
+    (λ c κs. search needs)
+    (λ c κs. search needs)
+    returns-2
+    (λ c κs. search needs)
+    returns-3
+    returns-4
+    returns-5
+    returns-6
+    (λ c κs. search needs)
+    returns-7)

@@ -1,0 +1,86 @@
+-- Who wins the line: a command asks it in CMD2 alone, and a card that lost is as if it had heard nothing.
+--   any-wins          but for CMD2, a command does not ask who wins
+--   lost-unchanged    CMD2 at a card that lost: nothing sent, nothing changed
+-- Assumes nothing.
+use mathlib.Core.Path.{_≡_, refl, ap, _∙_}
+use mathlib.Core.Bool.{Bool, false}
+use Prim.Native.Nat.{ℕ}
+use lib.Dec.{eqb}
+use Rattle.base.specs.Choice.{pick}
+use Rattle.command.specs.Answers.{silent}
+use Rattle.command.specs.Command.{metBy, receivedOf, concluded, takenOf, movedBy, commandOf}
+use Rattle.command.specs.Obey.{judgedOf}
+use Rattle.command.specs.declared.Commanded.{Commanded}
+use Rattle.command.specs.declared.Met.{Met}
+use Rattle.moves.specs.Moves.{moveOf}
+use Rattle.moves.specs.Rows.{rowOf}
+use Rattle.moves.specs.declared.Received.{Received}
+use Rattle.moves.specs.declared.Move.{Move}
+use Rattle.moves.specs.declared.Move.the-variants.{Ignored, Silent, Illegal, To}
+use Rattle.moves.specs.declared.Row.{Row}
+use Rattle.moves.specs.declared.Row.the-variants.{AllSendCidLost}
+use Rattle.card_record.specs.Power.{freshLink}
+use Rattle.card_record.specs.declared.Card.{Card}
+use Rattle.card_record.specs.declared.Link.{Link}
+use Rattle.states.specs.States.{columnOf}
+use Rattle.states.specs.declared.Column.{Column}
+use Rattle.states.specs.declared.Column.the-variants.{Idle, Ready, Ident, Stby, Tran, Data, Rcv, Prg, Dis, Ina}
+use Rattle.status.specs.declared.Fault.{Fault}
+use Rattle.status.specs.declared.Fault.the-variants.{None, Bit}
+use Rattle.tags.specs.declared.Tagging.{Tagging}
+use Rattle.tags.specs.declared.Tags.{Tags}
+
+-- ---- every command but CMD2
+module _ (card : Card) (v w : Bool) (index argument : ℕ) where
+  abbrev askedBy : Bool → Received
+  askedBy wins = receivedOf (card .link) (metBy card wins) index argument
+
+  row-same : eqb index 2 ≡ false → rowOf (askedBy v) ≡ rowOf (askedBy w)
+  unfolding rowOf
+  row-same t = simp t
+
+  concluded-same : (row : Row) (column : Column) (tags : Tags) (fault : Fault)
+      → concluded (card .link) (metBy card v) (askedBy v) row column tags fault
+      ≡ concluded (card .link) (metBy card w) (askedBy w) row column tags fault
+  unfolding concluded
+  concluded-same row column tags None = refl
+  concluded-same row column tags (Bit bit) = refl
+
+  abbrev moved : Bool → Row → Move → Commanded
+  moved wins = movedBy (card .link) (metBy card wins) (askedBy wins)
+
+  moved-same : (row : Row) (move : Move) → moved v row move ≡ moved w row move
+  unfolding takenOf
+  moved-same row Ignored = refl
+  moved-same row Silent = refl
+  moved-same row Illegal = refl
+  moved-same row (To column) =
+      let judged : Tagging = judgedOf (card .link) (card .registers .groups) (card .lock .locked) index argument in
+      ap (λ (x : Commanded). pick (eqb index 0) (silent freshLink) x) (concluded-same row column (judged .tags) (judged .error))
+
+  pub any-wins : eqb index 2 ≡ false
+      → commandOf (card .link) (metBy card v) index argument ≡ commandOf (card .link) (metBy card w) index argument
+  unfolding commandOf
+  any-wins t =
+      ap (λ (row : Row). moved v row (moveOf row (columnOf (card .link .state)))) (row-same t)
+      ∙ moved-same (rowOf (askedBy w)) (moveOf (rowOf (askedBy w)) (columnOf (card .link .state)))
+
+-- ---- CMD2
+lost-silent : (link : Link) (met : Met) (asked : Received) (column : Column)
+    → movedBy link met asked AllSendCidLost (moveOf AllSendCidLost column) ≡ silent link
+unfolding moveOf
+lost-silent link met asked Idle = refl
+lost-silent link met asked Ready = refl
+lost-silent link met asked Ident = refl
+lost-silent link met asked Stby = refl
+lost-silent link met asked Tran = refl
+lost-silent link met asked Data = refl
+lost-silent link met asked Rcv = refl
+lost-silent link met asked Prg = refl
+lost-silent link met asked Dis = refl
+lost-silent link met asked Ina = refl
+
+pub lost-unchanged : (card : Card) (argument : ℕ) → commandOf (card .link) (metBy card false) 2 argument ≡ silent (card .link)
+unfolding commandOf rowOf
+lost-unchanged card argument =
+    lost-silent (card .link) (metBy card false) (receivedOf (card .link) (metBy card false) 2 argument) (columnOf (card .link .state))

@@ -1,0 +1,76 @@
+// The record that numbers and bytes stand for. Any numbers stand for one, so that no call asks
+// anything of them: a number that is wider than its field counts by its low bits, a state or tags of
+// no name read as Inactive and as none, and a flag is set by every number but 0, so that damage opens
+// no card.
+use card_record::Card;
+use card_record::Link;
+use card_record::Registers;
+use lock::Lock;
+use states::Incoming;
+use states::Outgoing;
+use states::State;
+use status::Errors;
+use tags::Kind;
+use tags::Range;
+use tags::Tags;
+ghost use mathlib.Core.Path.{_≡_};
+ghost use Rattle.crossing.specs.Record.{stateOf, tagsBy, cardOf};
+
+fn state_of(number: u32, at: u32) -> State
+    ensures { λ r. ⌜ r ≡ stateOf number at ⌝ }
+{
+    match number {
+        0 => State::Idle,
+        1 => State::Ready,
+        2 => State::Ident,
+        3 => State::Stby,
+        4 => State::Tran,
+        5 => State::Data(Outgoing::One(at)),
+        6 => State::Data(Outgoing::Many(at)),
+        7 => State::Data(Outgoing::Protection(at)),
+        8 => State::Rcv(Incoming::One(at)),
+        9 => State::Rcv(Incoming::Many(at)),
+        10 => State::Rcv(Incoming::LockRequest),
+        11 => State::Prg,
+        12 => State::Dis,
+        _ => State::Ina,
+    }
+}
+
+fn tags_by(number: u32, first: u32, last: u32) -> Tags
+    ensures { λ r. ⌜ r ≡ tagsBy number first last ⌝ }
+{
+    let range = match number {
+        1 => Range::Start(Kind::Sectors, first),
+        2 => Range::Start(Kind::Groups, first),
+        3 => Range::Full(Kind::Sectors, first, last),
+        4 => Range::Full(Kind::Groups, first, last),
+        _ => Range::Nothing,
+    };
+    Tags { range }
+}
+
+pub fn card_of(numbers: [u32; 12], cid: [u8; 16], csd: [u8; 16], password: [u8; 16]) -> Card
+    ensures answer { λ r. ⌜ r ≡ cardOf numbers cid csd password ⌝ }
+{
+    Card {
+        registers: Registers {
+            cid,
+            csd,
+            ocr: numbers[11],
+            groups: (numbers[10] % 65536) as u16,
+        },
+        lock: Lock {
+            password,
+            length: (numbers[9] % 256) as u8,
+            locked: numbers[8] != 0,
+        },
+        link: Link {
+            state: state_of(numbers[0], numbers[1]),
+            address: (numbers[2] % 65536) as u16,
+            length: (numbers[3] % 65536) as u16,
+            errors: Errors { bits: numbers[4] },
+            tags: tags_by(numbers[5], numbers[6], numbers[7]),
+        },
+    }
+}

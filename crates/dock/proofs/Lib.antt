@@ -1,4 +1,0 @@
-pub mod Enough
-pub mod Laws
-pub mod Made
-pub mod WrongAnswers

@@ -1,5 +1,0 @@
-pub mod Digits
-pub mod Pairs
-pub mod Shown
-pub mod Writing
-pub mod WrongAnswers

@@ -1,9 +1,0 @@
--- `lines::digit` meets its contract: each return is told its test.
--- Assumes nothing.
-use borrow.Author.Needs.{needs}
-use Rattle.base.proofs.Branch.{tests}
-use Rattle.lines.proofs.digit.Statement.{statement}
-use Rattle.lines.proofs.digit.Tie as tie
-
-pub digit-spec : {M : Type 1} → statement M
-digit-spec = tie.close (tie.spec (λ c. search needs) (λ c. search tests) (λ c. search needs) (λ c. search tests))

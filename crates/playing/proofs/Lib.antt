@@ -1,0 +1,4 @@
+pub mod Joined
+pub mod Keeping
+pub mod Turns
+pub mod WrongAnswers

@@ -1,0 +1,44 @@
+-- `shared_line::lower` meets its contract: the first CID, or a comparison.
+-- Assumes nothing.
+use borrow.Author.Needs.{needs}
+use Rattle.shared_line.proofs.Orders.{lower-first, lower-by}
+use Rattle.shared_line.specs.declared.Order.the-variants.{Smaller, Same, Larger}
+use Rattle.shared_line.proofs.lower.Statement.{statement}
+use Rattle.shared_line.proofs.lower.Tie as tie
+
+returns : tie.Need-returns
+returns c = let a = c .before .before .args in lower-first (a .low) (a .cid) (c .if1 .taken)
+
+returns-2 : tie.Need-returns-2
+returns-2 c =
+    let m = c .before .before in
+    let e = m .before .before in
+    let a = e .before .before .args in
+    lower-by (a .low) (a .cid) (e .if1 .left) _ Smaller (m .compare .ensures) (c .enum-told .given .1)
+
+returns-3 : tie.Need-returns-3
+returns-3 c =
+    let m = c .before .before in
+    let e = m .before .before in
+    let a = e .before .before .args in
+    lower-by (a .low) (a .cid) (e .if1 .left) _ Same (m .compare .ensures) (c .enum-told2 .given .1)
+
+returns-4 : tie.Need-returns-4
+returns-4 c =
+    let m = c .before .before in
+    let e = m .before .before in
+    let a = e .before .before .args in
+    lower-by (a .low) (a .cid) (e .if1 .left) _ Larger (m .compare .ensures) (c .enum-told3 .given .1)
+
+pub lower-spec : {M : Type 1} → statement M
+lower-spec =
+    tie.close
+    (tie.spec
+    returns
+    (λ c κs. search needs)
+    (λ c. search needs)
+    (λ c. search needs)
+    (λ c. search needs)
+    returns-2
+    returns-3
+    returns-4)

@@ -1,0 +1,95 @@
+// The shared line (document 01, "The shared line"): what it shows, bit by bit, and who is still
+// heard, in specs/Line.antt. The code works on bytes: the smallest CID that was sent, and frames
+// ANDed. No call has a `requires`.
+//
+// Offers: `Low`, `nobody`, `lower`, `is_low`; `and`.
+use base::least;
+ghost use mathlib.Core.Path.{_≡_};
+ghost use Rattle.shared_line.specs.Bytes.{anded};
+ghost use Rattle.shared_line.specs.Lowest.{orderOf, noLow, lowerOf, isLow};
+
+// The smallest CID among those that were sent, if any was.
+pub struct Low {
+    pub any: bool,
+    pub cid: [u8; 16],
+}
+
+// How a CID stands to another, as numbers.
+pub enum Order {
+    Smaller,
+    Same,
+    Larger,
+}
+
+// How a CID stands to another: the first byte in which they differ decides.
+fn compare(a: [u8; 16], b: [u8; 16]) -> Order
+    ensures { λ r. ⌜ r ≡ orderOf a b ⌝ }
+{
+    let mut i: usize = 0;
+    while i < 16 {
+        if a[i] < b[i] {
+            return Order::Smaller;
+        }
+        if b[i] < a[i] {
+            return Order::Larger;
+        }
+        i += 1;
+    }
+    Order::Same
+}
+
+// No CID yet.
+pub fn nobody() -> Low
+    ensures answer { λ r. ⌜ r ≡ noLow ⌝ }
+{
+    Low {
+        any: false,
+        cid: [0; 16],
+    }
+}
+
+// The smaller of what was found and one more CID.
+pub fn lower(low: Low, cid: [u8; 16]) -> Low
+    ensures answer { λ r. ⌜ r ≡ lowerOf low cid ⌝ }
+{
+    if !low.any {
+        return Low { any: true, cid };
+    }
+    let least = low.cid;
+    let order = compare(cid, least);
+    match order {
+        Order::Smaller => Low { any: true, cid },
+        Order::Same => low,
+        Order::Larger => low,
+    }
+}
+
+// Whether a CID is the one that was found.
+pub fn is_low(low: Low, cid: [u8; 16]) -> bool
+    ensures answer { λ r. ⌜ r ≡ isLow low cid ⌝ }
+{
+    if !low.any {
+        return false;
+    }
+    let least = low.cid;
+    let order = compare(cid, least);
+    match order {
+        Order::Smaller => false,
+        Order::Same => true,
+        Order::Larger => false,
+    }
+}
+
+// What the line held, ANDed with a frame.
+pub fn and(line: [u8; 17], frame: &[u8]) -> [u8; 17]
+    ensures answer { λ r. ⌜ r ≡ anded line (now (frame .entry)) ⌝ }
+{
+    let mut out = line;
+    let end = least(17, frame.len());
+    let mut i: usize = 0;
+    while i < end {
+        out[i] = out[i] & frame[i];
+        i += 1;
+    }
+    out
+}
