@@ -1,10 +1,10 @@
--- `command::obey::read_fault` meets its contract: the two tests in order.
+-- `command::arguments::read_fault` meets its contract: the two tests in order.
 -- Assumes nothing.
 use mathlib.Core.Path.{sym, _∙_}
 use borrow.Author.Needs.{needs}
 use borrow.Author.Tests.{le-leb, lt-leb}
-use Rattle.command.proofs.obey.read_fault.Statement.{statement}
-use Rattle.command.proofs.obey.read_fault.Tie as tie
+use Rattle.command.proofs.arguments.read_fault.Statement.{statement}
+use Rattle.command.proofs.arguments.read_fault.Tie as tie
 
 pub read-fault-spec : {M : Type 1} → statement M
 read-fault-spec =

@@ -1,13 +1,12 @@
--- `command::reset_told` meets its contract: the two tests in order, each told by its callee.
+-- `command::obey::reset_told` meets its contract: the two tests in order, each told by its callee.
 -- Assumes nothing.
 use mathlib.Core.Bool.{true}
 use mathlib.Core.Path.{_≡_, sym, _∙_}
 use borrow.Author.Needs.{needs}
 use borrow.Author.Tests.{not-false, not-true}
-use Rattle.command.specs.Command.{resetTold}
-use Rattle.command.specs.Obey.{dropsTags}
-use Rattle.command.proofs.reset_told.Statement.{statement}
-use Rattle.command.proofs.reset_told.Tie as tie
+use Rattle.command.specs.Obey.{dropsTags, resetTold}
+use Rattle.command.proofs.obey.reset_told.Statement.{statement}
+use Rattle.command.proofs.obey.reset_told.Tie as tie
 
 dropping : (c : tie.Else1) → dropsTags (c .before .before .args .index) ≡ true
 dropping c = sym (c .before .drops-tags .ensures) ∙ not-false (c .before .drops-tags .result) (c .if1 .left)

@@ -1,8 +1,8 @@
--- `command::obey::length_fault` meets its contract: the two tests in order.
+-- `command::arguments::length_fault` meets its contract: the two tests in order.
 -- Assumes nothing.
 use borrow.Author.Tests.{le-leb, lt-leb}
-use Rattle.command.proofs.obey.length_fault.Statement.{statement}
-use Rattle.command.proofs.obey.length_fault.Tie as tie
+use Rattle.command.proofs.arguments.length_fault.Statement.{statement}
+use Rattle.command.proofs.arguments.length_fault.Tie as tie
 
 pub length-fault-spec : {M : Type 1} → statement M
 length-fault-spec =

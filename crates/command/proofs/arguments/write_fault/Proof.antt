@@ -1,9 +1,9 @@
--- `command::obey::write_fault` meets its contract: the three tests in order.
+-- `command::arguments::write_fault` meets its contract: the three tests in order.
 -- Assumes nothing.
 use borrow.Author.Needs.{needs}
 use borrow.Author.Tests.{eq-eqb, le-leb, lt-leb, ne-eqb}
-use Rattle.command.proofs.obey.write_fault.Statement.{statement}
-use Rattle.command.proofs.obey.write_fault.Tie as tie
+use Rattle.command.proofs.arguments.write_fault.Statement.{statement}
+use Rattle.command.proofs.arguments.write_fault.Tie as tie
 
 pub write-fault-spec : {M : Type 1} → statement M
 write-fault-spec =

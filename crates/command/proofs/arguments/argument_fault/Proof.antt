@@ -1,10 +1,10 @@
--- `command::obey::argument_fault` meets its contract: each arm is told its index, and the last that it is none of the others'.
+-- `command::arguments::argument_fault` meets its contract: each arm is told its index, and the last that it is none of the others'.
 -- Assumes nothing.
 use borrow.Author.Needs.{needs}
 use borrow.Author.Tests.{ne-eqb}
 use Rattle.command.specs.Arguments.{argumentFault}
-use Rattle.command.proofs.obey.argument_fault.Statement.{statement}
-use Rattle.command.proofs.obey.argument_fault.Tie as tie
+use Rattle.command.proofs.arguments.argument_fault.Statement.{statement}
+use Rattle.command.proofs.arguments.argument_fault.Tie as tie
 
 pub argument-fault-spec : {M : Type 1} → statement M
 unfolding argumentFault

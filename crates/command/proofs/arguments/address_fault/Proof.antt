@@ -1,8 +1,8 @@
--- `command::obey::address_fault` meets its contract: the one test.
+-- `command::arguments::address_fault` meets its contract: the one test.
 -- Assumes nothing.
 use borrow.Author.Tests.{le-leb, lt-leb}
-use Rattle.command.proofs.obey.address_fault.Statement.{statement}
-use Rattle.command.proofs.obey.address_fault.Tie as tie
+use Rattle.command.proofs.arguments.address_fault.Statement.{statement}
+use Rattle.command.proofs.arguments.address_fault.Tie as tie
 
 pub address-fault-spec : {M : Type 1} → statement M
 address-fault-spec =

@@ -1,8 +1,8 @@
--- `command::obey::group_fault` meets its contract: the one test.
+-- `command::arguments::group_fault` meets its contract: the one test.
 -- Assumes nothing.
 use borrow.Author.Tests.{le-ltb, lt-ltb}
-use Rattle.command.proofs.obey.group_fault.Statement.{statement}
-use Rattle.command.proofs.obey.group_fault.Tie as tie
+use Rattle.command.proofs.arguments.group_fault.Statement.{statement}
+use Rattle.command.proofs.arguments.group_fault.Tie as tie
 
 pub group-fault-spec : {M : Type 1} → statement M
 group-fault-spec =
