@@ -1,4 +1,4 @@
--- `firmware::calls::send` meets its contract: what is sent is always written, since the longest is 17 bytes.
+-- `firmware::frames::send` meets its contract: what is sent is always written, since the longest is 17 bytes.
 -- Assumes nothing.
 use mathlib.Core.Path.{_≡_, ap, _∙_}
 use native.Mathlib.Omega.{arith}
@@ -9,8 +9,8 @@ use Rattle.base.specs.Output.{laid}
 use Rattle.base.specs.declared.Written.{Written}
 use Rattle.command.proofs.Sends.{written-bytes, never-refused}
 use Rattle.command.specs.Sending.{sentBytes}
-use Rattle.firmware.proofs.calls.send.Statement.{statement}
-use Rattle.firmware.proofs.calls.send.Tie as tie
+use Rattle.firmware.proofs.frames.send.Statement.{statement}
+use Rattle.firmware.proofs.frames.send.Tie as tie
 
 returns : tie.Need-returns
 returns c =
