@@ -16,8 +16,8 @@ static struct side start, one, two;
 static u8 input[ROOM];
 #define PARTS(side) &(side).card.numbers, (side).card.cid, (side).card.csd, (side).card.password
 
-/* The numbers that mean nothing in a record, made 0: a place where the state carries none, ends of tags that are not there. Ours has them so
-   after each call, plain C leaves them as they were. */
+/* The numbers that mean nothing in a record, made 0: a place where the state carries none, ends of tags that are not there. Ours writes them so,
+   plain C leaves them as they were. */
 static void settle(struct mmc_numbers *card)
 {
     if (card->state < 5 || card->state > 9)

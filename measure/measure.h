@@ -89,6 +89,8 @@ enum work {
     MAKE = CARD_FIRST,
     POWER_ON,
     WORK_DONE,
+    CMD1,
+    CMD2,
     CMD13,
     CMD13_LARGE,
     CMD7,
@@ -125,8 +127,9 @@ void *card_code(const struct calls *calls, enum work work);
 void perform_rounds(const struct calls *calls);
 void nights(const struct calls *sets, const char *where);
 
-/* The head of a table, and the nanoseconds of a call. */
+/* The head of a table; the end of a row, with what is wanted at most of plain C's instructions, or 0; and the nanoseconds of a call. */
 void head(const char *what, const char *where);
+void wanted(double most, long ours, long plain);
 double timed(const struct calls *calls, enum work work);
 
 /* The instructions that the work's call executes, from its first to its return, and the bytes of stack that it takes below its return

@@ -11,9 +11,10 @@
    A call answers 0 where it was carried out, else the number that document 01 gives its refusal; a comment lists the numbers in the order
    in which they are looked for. A refused call leaves everything as it was but for what its comment says.
 
-   Of a card's record a call that is carried out writes all twelve numbers, in the form that `struct mmc_numbers` gives them below. So does a
-   frame that is refused 3, and a block that is refused 16 to 21: these change the record. Any other refusal of a frame or a block leaves the
-   record byte for byte. */
+   Of a card's record a call writes the numbers that it may change, in the form that `struct mmc_numbers` gives them below: a frame and a block
+   out the first eight, `state` to `last`; a block in and power-on these, `locked` and `password_length`; work done `state`, where it is prg or
+   dis; a make all twelve. The others keep their form, also where they are wider than their fields. A frame or a block that is refused leaves the
+   record byte for byte, but for a frame refused 3 and a block refused 16 to 21: these change it. */
 #ifndef MMC_H
 #define MMC_H
 

@@ -205,7 +205,7 @@ static void damage_record(const unsigned char *payload)
     damaged = card;
     expect(send_block(payload) == 15 && memcmp(&card, &damaged, sizeof card) == 0, "a block is refused, 15, and leaves it byte for byte");
     ask_status("The card is locked, not open: bit 25", 13, ADDRESS << 16, 0x02000900);
-    expect(card.numbers.at == 0 && card.numbers.locked == 1, "that was carried out, and wrote the numbers in their form");
+    expect(card.numbers.at == 0 && card.numbers.locked == 2, "that was carried out: it wrote the link's numbers in their form, and the lock's stay as they are");
 }
 
 static void lose_power(const unsigned char *log)

@@ -1,3 +1,4 @@
+pub mod Asking
 pub mod Cids
 pub mod Lists
 pub mod Sending

@@ -2,6 +2,7 @@
 --   changed        the first n elements changed by f, the others as they were
 --   change-turn    one turn of a loop that changes each element by f
 --   changed-next   what is not reached yet is as it was
+--   set-same       an element set to what it is: the list as it was
 --   change-all     all cards changed: the bus of the changed cards
 --   first-all      what holds in each of the first places holds of each card there
 --   getD-in        a card in one of the first places is one of the first cards
@@ -45,6 +46,12 @@ pub change-turn : {A : Type 0} (f : A → A) (i : ℕ) (l m : List A) (v d : A) 
     → set m i v ≡ changed f (i + 1) l
 change-turn f i l m v d em ev =
     ap₂ (λ x y. set x i y) em ev ∙ changed-suc f i l d ∙ ap (λ (k : ℕ). changed f k l) (sym (add-one i))
+
+pub set-same : {A : Type 0} (l : List A) (i : ℕ) (d : A) → set l i (getD l i d) ≡ l
+set-same [] zero d = refl
+set-same [] (suc i) d = refl
+set-same (a ∷ l) zero d = refl
+set-same (a ∷ l) (suc i) d = ap (λ t. a ∷ t) (set-same l i d)
 
 abbrev busOf : List Card → ℕ → Bus
 busOf cards count = record { cards = cards; count = count }

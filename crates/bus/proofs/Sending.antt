@@ -1,26 +1,22 @@
 -- What a card sends at a command on the bus. One that loses CMD2 sends nothing (`lost-unchanged` of command).
 --   cid-won     a Ready card that wins CMD2 sends its CID
 -- Assumes nothing.
-use mathlib.Core.Path.{_≡_, refl, ap, _∙_}
+use mathlib.Core.Path.{_≡_, refl, ap}
 use mathlib.Core.Bool.{true, false≢true}
 use Prim.Native.Nat.{ℕ}
 use lib.Dec.{eqb}
-use Rattle.command.specs.Answers.{responseOf, registerSent, answered}
-use Rattle.command.specs.Command.{metBy, receivedOf, concluded, takenOf, movedBy, commandOf}
+use Rattle.command.specs.Answers.{responseOf, answered}
+use Rattle.command.specs.Command.{metBy, receivedOf, takenOf, movedBy, commandOf}
 use Rattle.command.specs.declared.Met.{Met}
 use Rattle.command.specs.declared.Sent.the-variants.{Cid}
 use Rattle.moves.specs.Moves.{moveOf}
 use Rattle.moves.specs.Rows.{rowOf}
-use Rattle.moves.specs.declared.Received.{Received}
 use Rattle.moves.specs.declared.Row.the-variants.{AllSendCidWon}
 use Rattle.card_record.specs.declared.Card.{Card}
 use Rattle.card_record.specs.declared.Link.{Link}
 use Rattle.states.specs.States.{columnOf, columnNumber}
 use Rattle.states.specs.declared.Column.{Column}
 use Rattle.states.specs.declared.Column.the-variants.{Idle, Ready, Ident, Stby, Tran, Data, Rcv, Prg, Dis, Ina}
-use Rattle.status.specs.declared.Fault.{Fault}
-use Rattle.status.specs.declared.Fault.the-variants.{None, Bit}
-use Rattle.tags.specs.declared.Tags.{Tags}
 use Rattle.bus.specs.Bus.{isReady}
 
 ready-column : (column : Column) → eqb (columnNumber column) 1 ≡ true → column ≡ Ready
@@ -35,18 +31,11 @@ ready-column Prg e = absurd (false≢true e)
 ready-column Dis e = absurd (false≢true e)
 ready-column Ina e = absurd (false≢true e)
 
-won-told : (link : Link) (met : Met) (asked : Received) (column : Column) (tags : Tags) (fault : Fault) → asked .index ≡ 2
-    → concluded link met asked AllSendCidWon column tags fault .sent ≡ Cid
-unfolding concluded answered responseOf
-won-told link met asked column tags None e = ap registerSent e
-won-told link met asked column tags (Bit bit) e = ap registerSent e
-
 won-sent : (link : Link) (met : Met) (argument : ℕ) (column : Column) → column ≡ Ready
     → movedBy link met (receivedOf link met 2 argument) AllSendCidWon (moveOf AllSendCidWon column) .sent ≡ Cid
-unfolding moveOf takenOf
+unfolding moveOf takenOf answered responseOf
 won-sent link met argument column e =
     ap (λ (k : Column). movedBy link met (receivedOf link met 2 argument) AllSendCidWon (moveOf AllSendCidWon k) .sent) e
-    ∙ won-told link met (receivedOf link met 2 argument) Ident _ _ refl
 
 pub cid-won : (card : Card) (argument : ℕ) → isReady card ≡ true → commandOf (card .link) (metBy card true) 2 argument .sent ≡ Cid
 unfolding commandOf rowOf

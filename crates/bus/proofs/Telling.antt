@@ -2,10 +2,13 @@
 --   told-is-command   what the turns leave is what the definition says
 --   line-is-heard     the bytes ANDed into the line are what it shows
 --   tell-turn         one turn of the loop
+--   tell-alone        one turn at a card that is left alone
+--   turn-alone        a card that is left alone is as it was after its turn, and the line holds what it held
 --   turn-right        a card in its turn is told rightly whether it wins
 --   heard-start, heard-turn   one turn more
 --   heard-all         what is held after all turns
---   shown-silent, shown-bytes   the answer, from the bytes copied to the front of zeros
+--   shown-silent, shown-bytes   what the line shows, by how many bytes were sent
+--   filled            its bytes, copied to the front of zeros
 -- Assumes nothing.
 use mathlib.Core.Path.{_≡_, refl, sym, ap, ap₂, _∙_, subst}
 use mathlib.Core.Bool.{Bool, true, false}
@@ -16,24 +19,28 @@ use native.Mathlib.Omega.{arith}
 use borrow.Author.Tests.{eqb-true}
 use lib.Dec.{eqb}
 use lib.ListN.{length, take, drop, getD, set, replicate}
-use lib.Seq.{take-suc, length-take-le}
+use lib.Seq.{take-suc, take-all, length-take-le}
 use Rattle.base.proofs.Cases.{cases}
+use Rattle.base.proofs.Copying.{copied-front}
+use Rattle.base.specs.Output.{copied}
 use Rattle.command.specs.Sending.{sentBytes}
 use Rattle.command.proofs.Verdict.{any-wins}
-use Rattle.command.specs.Command.{metBy, commandOf}
+use Rattle.command.proofs.Alone.{left-alone}
+use Rattle.command.specs.Command.{metBy, commandOf, decidedOf, leavesAlone}
 use Rattle.command.specs.declared.Commanded.{Commanded}
+use Rattle.command.specs.declared.Decided.{Decided}
 use Rattle.crc.specs.Bits.{octets, Below}
 use Rattle.shared_line.proofs.Together.{together-is-and}
-use Rattle.shared_line.specs.Bytes.{andedAll}
+use Rattle.shared_line.specs.Bytes.{anded, andedAll}
 use Rattle.shared_line.specs.Line.{together}
 use Rattle.card_record.specs.Record.{withLink}
 use Rattle.card_record.specs.declared.Card.{Card}
 use Rattle.bus.proofs.Cids.{cid-line}
-use Rattle.bus.proofs.Lists.{changed, changed-next, change-turn, first-all, getD-in}
+use Rattle.bus.proofs.Lists.{changed, changed-next, change-turn, set-same, first-all, getD-in}
 use Rattle.bus.proofs.Winners.{holders}
 use Rattle.bus.specs.Bus.{countOf, cardsOf, withCards, winsLine, commandAt, cardAfter, frameFrom, longestOf, frameSender, cidLine, andLine, lineOf, shownOf, padded}
 use Rattle.bus.specs.Contest.{lowFrom, lowFor, holdsLow, Held, HeldAll}
-use Rattle.bus.specs.Hearing.{quiet, heardOf, heardFrom, turnOf, shownFrom, toldOf}
+use Rattle.bus.specs.Hearing.{quiet, heardOf, heardFrom, turnOf, sentOn, toldOf}
 use Rattle.bus.specs.declared.Bus.{Bus}
 use Rattle.bus.specs.declared.Framed.{Framed}
 use Rattle.bus.specs.declared.Heard.{Heard}
@@ -42,6 +49,13 @@ use Rattle.shared_line.specs.declared.Low.{Low}
 use Rattle.bus.specs.declared.Shown.{Shown}
 use Rattle.bus.specs.declared.Shown.the-variants.{Line, Silent}
 use Rattle.bus.specs.declared.Turned.{Turned}
+
+abbrev turned : Card → Heard → Turned
+turned card heard = record { card = card; heard = heard }
+
+-- a turn by what the command leaves
+abbrev turnedBy : Heard → Card → Commanded → Turned
+turnedBy heard card given = turned (withLink card (given .link)) (heardOf heard (sentBytes (card .registers) (given .sent)))
 
 -- ---- turn by turn
 heard-snoc : (heard : Heard) (frames : List (List ℕ)) (frame : List ℕ)
@@ -73,6 +87,27 @@ pub heard-all : (heard : Heard) (frames : List (List ℕ))
 unfolding heardFrom heardOf andedAll longestOf
 heard-all heard [] = (refl, omega arith)
 heard-all heard (frame ∷ frames) = let r = heard-all (heardOf heard frame) frames in (r .0, r .1 ∙ omega arith)
+
+-- ---- a card left alone
+and-nothing : (line : List ℕ) → anded line [] ≡ line
+unfolding anded
+and-nothing [] = refl
+and-nothing (b ∷ line) = refl
+
+abbrev held : List ℕ → ℕ → Heard
+held line length = record { line = line; length = length }
+
+quiet-heard : (heard : Heard) → heardOf heard [] ≡ heard
+unfolding heardOf
+quiet-heard heard = let e : max (heard .length) 0 ≡ heard .length = omega arith in ap₂ held (and-nothing (heard .line)) e
+
+pub turn-alone : (heard : Heard) (card : Card) (wins : Bool) (index argument : ℕ)
+    → leavesAlone (decidedOf (card .link) (metBy card wins) index argument) ≡ true
+    → turnOf heard card wins index argument ≡ turned card heard
+unfolding turnOf sentBytes
+turn-alone heard card wins index argument e =
+    ap (λ (g : Commanded). turnedBy heard card g) (left-alone (card .link) (metBy card wins) index argument e)
+    ∙ ap (λ (h : Heard). turned card h) (quiet-heard heard)
 
 -- ---- who wins
 pub turn-right : (bus : Bus) (index argument : ℕ) (low : Low) (card : Card) → low ≡ lowFor bus index → HeldAll bus index
@@ -115,10 +150,24 @@ module _ (bus : Bus) (index argument : ℕ) where
       ap (λ (t : Turned). t .heard) told ∙ ap (λ (g : Commanded). heardOf heard (sentBytes (card .registers) (g .sent))) right in
       (change-turn after i cards next (turned .card) d en is, heard-turn frame cards i d heard (turned .heard) (omega arith) eh holdsLow)
 
+  pub tell-alone : (i : ℕ) (d : Card) (low : Low) (next : List Card) (heard : Heard) (won : Bool) (decided : Decided)
+      → length (bus .cards) ≡ 30 → i < countOf bus → low ≡ lowFor bus index → HeldAll bus index
+      → next ≡ changed after i (bus .cards) → heard ≡ heardFrom quiet (map frame (take i (bus .cards)))
+      → won ≡ holdsLow low (getD next i d) → decided ≡ decidedOf (getD next i d .link) (metBy (getD next i d) won) index argument
+      → leavesAlone decided ≡ true
+      → (next ≡ changed after (i + 1) (bus .cards)) × (heard ≡ heardFrom quiet (map frame (take (i + 1) (bus .cards))))
+  tell-alone i d low next heard won decided long there found held en eh ew ed alone =
+      let card : Card = getD next i d in
+      let told : Turned = turnOf heard card won index argument in
+      let more = tell-turn i d low next heard won told long there found held en eh ew refl in
+      let same : told ≡ turned card heard = turn-alone heard card won index argument (ap leavesAlone (sym ed) ∙ alone) in
+      let kept = sym (set-same next i d) ∙ ap (λ (t : Turned). set next i (t .card)) (sym same) in
+      (kept ∙ more .0, ap (λ (t : Turned). t .heard) (sym same) ∙ more .1)
+
 -- ---- all at once
 pub line-is-heard : (bus : Bus) (index argument : ℕ) (heard : Heard) → HeldAll bus index → heard .length ≤ 17 → Below 256 (heard .line)
     → heard ≡ heardFrom quiet (map (frameFrom (cardsOf bus) index argument) (cardsOf bus))
-    → lineOf (cardsOf bus) index argument ≡ take (heard .length) (heard .line)
+    → lineOf (cardsOf bus) index argument ≡ sentOn heard
 unfolding lineOf quiet andLine
 line-is-heard bus index argument heard held short small e =
     let cards : List Card = cardsOf bus in
@@ -139,14 +188,18 @@ line-is-heard bus index argument heard held short small e =
     (λ (t : eqb index 2 ≡ false). let left : lineOf cards index argument ≡ andLine frames = simp t in left ∙ both)
 
 -- what a line of bytes is as an answer
-abbrev answerOf : Bus → List ℕ → Framed
-answerOf bus line = record { bus = bus; shown = shownOf line; line = padded line }
+abbrev answerWith : Bus → Shown → List ℕ → Framed
+answerWith bus shown line = record { bus = bus; shown = shown; line = line }
 
-pub told-is-command : (bus next : Bus) (heard : Heard) (index argument : ℕ)
+abbrev answerOf : Bus → List ℕ → Framed
+answerOf bus line = answerWith bus (shownOf line) (padded line)
+
+pub told-is-command : (bus next : Bus) (heard : Heard) (shown : Shown) (bytes : List ℕ) (index argument : ℕ)
     → next ≡ withCards bus (map (cardAfter (cardsOf bus) index argument) (cardsOf bus))
-    → lineOf (cardsOf bus) index argument ≡ take (heard .length) (heard .line) → shownFrom next heard ≡ toldOf bus index argument
-unfolding shownFrom toldOf
-told-is-command bus next heard index argument cards line = ap₂ answerOf cards (sym line)
+    → lineOf (cardsOf bus) index argument ≡ sentOn heard → shown ≡ shownOf (sentOn heard) → bytes ≡ padded (sentOn heard)
+    → answerWith next shown bytes ≡ toldOf bus index argument
+unfolding toldOf
+told-is-command bus next heard shown bytes index argument cards line es eb = ap₂ (answerWith next) es eb ∙ ap₂ answerOf cards (sym line)
 
 -- ---- shown
 drop-replicate : (n m a : ℕ) → n ≤ m → drop n (replicate m a) ≡ replicate (m - n) a
@@ -166,27 +219,24 @@ shown-none : (l : List ℕ) → length l ≡ 0 → Silent ≡ shownOf l
 shown-none [] e = refl
 shown-none (b ∷ l) e = absurd (omega arith)
 
-module _ (bus : Bus) (heard : Heard) (line : List ℕ) (short : heard .length ≤ 17) (long : length (heard .line) ≡ 17)
-    (copied : line ≡ take (heard .length) (heard .line) ++ drop (heard .length) zeros) where
-  abbrev first : List ℕ
-  first = take (heard .length) (heard .line)
+module _ (heard : Heard) (short : heard .length ≤ 17) (long : length (heard .line) ≡ 17) where
+  sent-length : length (sentOn heard) ≡ heard .length
+  sent-length = length-take-le (heard .length) (heard .line) (omega arith)
 
-  first-length : length first ≡ heard .length
-  first-length = length-take-le (heard .length) (heard .line) (omega arith)
+  pub shown-silent : heard .length < 1 → Silent ≡ shownOf (sentOn heard)
+  shown-silent h = shown-none (sentOn heard) (sent-length ∙ omega arith)
 
-  filled : line ≡ padded first
+  pub shown-bytes : 1 ≤ heard .length → Line (heard .length) ≡ shownOf (sentOn heard)
+  shown-bytes h = shown-line (sentOn heard) (heard .length) sent-length h
+
+  pub filled : (line : List ℕ) → line ≡ copied (take (heard .length - 0) (heard .line)) zeros 0 → line ≡ padded (sentOn heard)
   unfolding padded
-  filled =
-      copied ∙ ap (λ (l : List ℕ). first ++ l)
-      (drop-replicate (heard .length) 17 0 short ∙ ap (λ (k : ℕ). replicate (17 - k) 0) (sym first-length))
-
-  abbrev answered : Shown → List ℕ → Framed
-  answered shown bytes = record { bus = bus; shown = shown; line = bytes }
-
-  pub shown-silent : heard .length < 1 → answered Silent line ≡ shownFrom bus heard
-  unfolding shownFrom
-  shown-silent h = ap₂ answered (shown-none first (first-length ∙ omega arith)) filled
-
-  pub shown-bytes : 1 ≤ heard .length → answered (Line (heard .length)) line ≡ shownFrom bus heard
-  unfolding shownFrom
-  shown-bytes h = ap₂ answered (shown-line first (heard .length) first-length h) filled
+  filled line e =
+      let whole : heard .length - 0 ≡ heard .length = omega arith in
+      let first : List ℕ = sentOn heard in
+      e
+      ∙ ap (λ (k : ℕ). copied (take k (heard .line)) zeros 0) whole
+      ∙ copied-front first zeros
+      ∙ ap₂ (λ (l : List ℕ) (k : ℕ). l ++ drop k zeros) (take-all 17 first (omega (arith, sent-length))) sent-length
+      ∙ ap (λ (l : List ℕ). first ++ l)
+      (drop-replicate (heard .length) 17 0 short ∙ ap (λ (k : ℕ). replicate (17 - k) 0) (sym sent-length))

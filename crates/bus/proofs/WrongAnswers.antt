@@ -36,8 +36,8 @@ use Rattle.base.specs.Refusals.{by}
 use Rattle.command.specs.Sending.{sentBytes}
 use Rattle.command.specs.Answers.{responseOf, answered}
 use Rattle.command.specs.Arguments.{argumentFault}
-use Rattle.command.specs.Command.{damagedLink, resetTold, concluded, takenOf, commandOf}
-use Rattle.command.specs.Obey.{taggingOf, judgedOf, awaitedBy, obeyed, changeOf}
+use Rattle.command.specs.Command.{damagedLink, takenOf, commandOf}
+use Rattle.command.specs.Obey.{taggingOf, judgedOf, resetTold, awaitedBy, obeyed, changeOf, afterChecks, actedOf}
 use Rattle.crc.specs.Bits.{bits}
 use Rattle.crc.specs.Crc.{divide, remainder}
 use Rattle.shared_line.specs.Line.{line, contested, wins, together}
@@ -156,29 +156,29 @@ unfolding busFrame framingOf fieldsOf crc7Of remainder divide bits withCards dam
 damage-kept-from-last e = omega arith
 
 highest-shown : shows (ready 1) (ready 2) cmd2 ≡ 0x3F ∷ ready 2 .registers .cid → ⊥
-unfolding busFrame framingOf fieldsOf crc7Of remainder divide bits commandFor withCards commandAt cardAfter frameFrom lineOf cidLine andLine anyReady longestOf padded line contested wins together commandOf rowOf moveOf takenOf concluded judgedOf taggingOf argumentFault resetTold obeyed awaitedBy changeOf responseOf answered classOf wordOf sentBytes r1Frame r2Frame r3Frame sealed holding refusedMake
+unfolding busFrame framingOf fieldsOf crc7Of remainder divide bits commandFor withCards commandAt cardAfter frameFrom lineOf cidLine andLine anyReady longestOf padded line contested wins together commandOf rowOf moveOf takenOf actedOf afterChecks judgedOf taggingOf argumentFault resetTold obeyed awaitedBy changeOf responseOf answered classOf wordOf sentBytes r1Frame r2Frame r3Frame sealed holding refusedMake
 highest-shown e = let z : _≡_ {A = ℕ} 1 2 = ap (λ (l : List ℕ). getD l 16 0) e in omega arith
 
 loser-moves : at (after (ready 1) (ready 2) cmd2) 1 .link .state ≡ Ident → ⊥
-unfolding busFrame framingOf fieldsOf crc7Of remainder divide bits commandFor withCards commandAt cardAfter frameFrom lineOf cidLine andLine anyReady longestOf padded line contested wins together commandOf rowOf moveOf takenOf concluded judgedOf taggingOf argumentFault resetTold obeyed awaitedBy changeOf responseOf answered classOf wordOf sentBytes r1Frame r2Frame r3Frame sealed holding refusedMake
+unfolding busFrame framingOf fieldsOf crc7Of remainder divide bits commandFor withCards commandAt cardAfter frameFrom lineOf cidLine andLine anyReady longestOf padded line contested wins together commandOf rowOf moveOf takenOf actedOf afterChecks judgedOf taggingOf argumentFault resetTold obeyed awaitedBy changeOf responseOf answered classOf wordOf sentBytes r1Frame r2Frame r3Frame sealed holding refusedMake
 loser-moves e = let z : _≡_ {A = ℕ} 0 1 = cc in omega arith
 
 winner-waits : at (after (ready 1) (ready 2) cmd2) 0 .link .state ≡ Ready → ⊥
-unfolding busFrame framingOf fieldsOf crc7Of remainder divide bits commandFor withCards commandAt cardAfter frameFrom lineOf cidLine andLine anyReady longestOf padded line contested wins together commandOf rowOf moveOf takenOf concluded judgedOf taggingOf argumentFault resetTold obeyed awaitedBy changeOf responseOf answered classOf wordOf sentBytes r1Frame r2Frame r3Frame sealed holding refusedMake
+unfolding busFrame framingOf fieldsOf crc7Of remainder divide bits commandFor withCards commandAt cardAfter frameFrom lineOf cidLine andLine anyReady longestOf padded line contested wins together commandOf rowOf moveOf takenOf actedOf afterChecks judgedOf taggingOf argumentFault resetTold obeyed awaitedBy changeOf responseOf answered classOf wordOf sentBytes r1Frame r2Frame r3Frame sealed holding refusedMake
 winner-waits e = let z : _≡_ {A = ℕ} 0 1 = cc in omega arith
 
 cmd3-reaches-ready : at (after (card Ident 0x00FF8000 1) (ready 2) cmd3) 1 .link .state ≡ Stby → ⊥
-unfolding busFrame framingOf fieldsOf crc7Of remainder divide bits commandFor withCards commandAt cardAfter frameFrom lineOf cidLine andLine anyReady longestOf padded line contested wins together commandOf rowOf moveOf takenOf concluded judgedOf taggingOf argumentFault resetTold obeyed awaitedBy changeOf responseOf answered classOf wordOf sentBytes r1Frame r2Frame r3Frame sealed holding refusedMake
+unfolding busFrame framingOf fieldsOf crc7Of remainder divide bits commandFor withCards commandAt cardAfter frameFrom lineOf cidLine andLine anyReady longestOf padded line contested wins together commandOf rowOf moveOf takenOf actedOf afterChecks judgedOf taggingOf argumentFault resetTold obeyed awaitedBy changeOf responseOf answered classOf wordOf sentBytes r1Frame r2Frame r3Frame sealed holding refusedMake
 cmd3-reaches-ready e = let z : _≡_ {A = ℕ} 0 1 = cc in omega arith
 
 cmd3-tells-address : at (after (card Ident 0x00FF8000 1) (ready 2) cmd3) 1 .link .address ≡ 2 → ⊥
-unfolding busFrame framingOf fieldsOf crc7Of remainder divide bits commandFor withCards commandAt cardAfter frameFrom lineOf cidLine andLine anyReady longestOf padded line contested wins together commandOf rowOf moveOf takenOf concluded judgedOf taggingOf argumentFault resetTold obeyed awaitedBy changeOf responseOf answered classOf wordOf sentBytes r1Frame r2Frame r3Frame sealed holding refusedMake
+unfolding busFrame framingOf fieldsOf crc7Of remainder divide bits commandFor withCards commandAt cardAfter frameFrom lineOf cidLine andLine anyReady longestOf padded line contested wins together commandOf rowOf moveOf takenOf actedOf afterChecks judgedOf taggingOf argumentFault resetTold obeyed awaitedBy changeOf responseOf answered classOf wordOf sentBytes r1Frame r2Frame r3Frame sealed holding refusedMake
 cmd3-tells-address e = omega arith
 
 line-ored : getD (shows (card Idle 0x00C00000 1) (card Idle 0x00300000 2) cmd1) 2 0 ≡ 0xF0 → ⊥
-unfolding busFrame framingOf fieldsOf crc7Of remainder divide bits commandFor withCards commandAt cardAfter frameFrom lineOf cidLine andLine anyReady longestOf padded line contested wins together commandOf rowOf moveOf takenOf concluded judgedOf taggingOf argumentFault resetTold obeyed awaitedBy changeOf responseOf answered classOf wordOf sentBytes r1Frame r2Frame r3Frame sealed holding refusedMake
+unfolding busFrame framingOf fieldsOf crc7Of remainder divide bits commandFor withCards commandAt cardAfter frameFrom lineOf cidLine andLine anyReady longestOf padded line contested wins together commandOf rowOf moveOf takenOf actedOf afterChecks judgedOf taggingOf argumentFault resetTold obeyed awaitedBy changeOf responseOf answered classOf wordOf sentBytes r1Frame r2Frame r3Frame sealed holding refusedMake
 line-ored e = omega arith
 
 silence-shown : busFrame (bus (card Stby 0x00FF8000 1 ∷ [])) cmd2 .shown ≡ Line 17 → ⊥
-unfolding busFrame framingOf fieldsOf crc7Of remainder divide bits commandFor withCards commandAt cardAfter frameFrom lineOf cidLine andLine anyReady longestOf padded line contested wins together commandOf rowOf moveOf takenOf concluded judgedOf taggingOf argumentFault resetTold obeyed awaitedBy changeOf responseOf answered classOf wordOf sentBytes r1Frame r2Frame r3Frame sealed holding refusedMake
+unfolding busFrame framingOf fieldsOf crc7Of remainder divide bits commandFor withCards commandAt cardAfter frameFrom lineOf cidLine andLine anyReady longestOf padded line contested wins together commandOf rowOf moveOf takenOf actedOf afterChecks judgedOf taggingOf argumentFault resetTold obeyed awaitedBy changeOf responseOf answered classOf wordOf sentBytes r1Frame r2Frame r3Frame sealed holding refusedMake
 silence-shown e = let z : _≡_ {A = ℕ} 0 1 = cc in omega arith

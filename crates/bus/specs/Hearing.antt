@@ -4,17 +4,35 @@
 use mathlib.Core.Bool.{Bool}
 use mathlib.Core.List.{List, [], _∷_, map}
 use Prim.Native.Nat.{ℕ, max}
+use lib.Dec.{leb}
 use lib.ListN.{length, take, replicate}
+use Rattle.base.specs.Choice.{unless}
+use Rattle.base.specs.Refusals.{by}
 use Rattle.command.specs.Sending.{sentBytes}
 use Rattle.command.specs.Command.{metBy, commandOf}
 use Rattle.shared_line.specs.Bytes.{anded}
+use Rattle.moves.specs.Indices.{among}
 use Rattle.card_record.specs.Record.{withLink}
 use Rattle.card_record.specs.declared.Card.{Card}
-use Rattle.bus.specs.Bus.{cardsOf, withCards, cardAfter, lineOf, shownOf, padded}
+use Rattle.wire.specs.Frames.{framingOf}
+use Rattle.wire.specs.declared.Framing.{Framing}
+use Rattle.wire.specs.declared.Framing.the-variants.{Framed, Unframed}
+use Rattle.bus.specs.Bus.{cardsOf, withCards, cardAfter, lineOf, shownOf, padded, busIndices}
+use Rattle.bus.specs.declared.Asked.{Asked}
+use Rattle.bus.specs.declared.Asked.the-variants.{Command, Damaged, Refused}
 use Rattle.bus.specs.declared.Bus.{Bus}
-use Rattle.bus.specs.declared.Framed.{Framed}
+use Rattle.bus.specs.declared.Framed.{Framed as Answered}
 use Rattle.bus.specs.declared.Heard.{Heard}
 use Rattle.bus.specs.declared.Turned.{Turned}
+
+-- what a frame asks of a bus of so many cards: "at a bus 13, 1, 2, 3, 14", and else a command of all its cards
+abbrev pub framingAsked : Framing → Asked
+framingAsked (Unframed refusal) = Refused refusal
+framingAsked (Framed index argument right) =
+    unless right Damaged (unless (among index busIndices) (Refused (by 14)) (Command index argument))
+
+unfoldable pub busAsked : ℕ → List ℕ → Asked
+busAsked count frame = unless (leb 1 count) (Refused (by 13)) (framingAsked (framingOf frame))
 
 -- the line before anyone sends
 unfoldable pub quiet : Heard
@@ -35,13 +53,12 @@ turnOf heard card wins index argument =
       heard = heardOf heard (sentBytes (card .registers) (commandOf (card .link) (metBy card wins) index argument .sent));
     }
 
--- the first bytes of the line, and zeros behind them
-unfoldable pub shownFrom : Bus → Heard → Framed
-shownFrom bus heard =
-    record { bus = bus; shown = shownOf (take (heard .length) (heard .line)); line = padded (take (heard .length) (heard .line)) }
+-- what was sent, of the bytes that the line holds
+abbrev pub sentOn : Heard → List ℕ
+sentOn heard = take (heard .length) (heard .line)
 
 -- a command that the bus takes
-unfoldable pub toldOf : Bus → ℕ → ℕ → Framed
+unfoldable pub toldOf : Bus → ℕ → ℕ → Answered
 toldOf bus index argument =
     record {
       bus = withCards bus (map (cardAfter (cardsOf bus) index argument) (cardsOf bus));

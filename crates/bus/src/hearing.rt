@@ -1,27 +1,72 @@
-// A command for all cards: each takes it in its turn, and what it sends is ANDed into the line. The
-// bus reaches a card through `command::command` alone.
-use crate::Bus;
-use crate::Framed;
+// A frame as the bus hears it: what it asks of the cards, a card's turn, and what the line then
+// shows. A command reaches a card through `command::decide` and `command::follow` alone.
+use crate::Asked;
 use crate::Heard;
 use crate::Shown;
 use crate::Turned;
-use crate::contest::lowest;
-use crate::contest::wins;
-use crate::places;
-use crate::refuse;
 use base::Refusal;
 use base::Written;
+use base::copy;
 use card_record::Card;
 use card_record::Registers;
+use command::Decided;
 use command::Met;
 use command::Sent;
+use wire::Framing;
 ghost use mathlib.Core.Path.{_≡_};
 ghost use Prim.Native.Nat.{_≤_, max};
-ghost use Rattle.bus.specs.Bus.{busIndices, commandFor};
-ghost use Rattle.bus.specs.Hearing.{heardOf, turnOf, shownFrom, toldOf};
+ghost use Rattle.bus.specs.Bus.{shownOf, padded, busIndices};
+ghost use Rattle.bus.specs.Hearing.{busAsked, quiet, heardOf, turnOf, sentOn};
+ghost use Rattle.command.specs.Command.{metBy, decidedOf};
 ghost use Rattle.command.specs.Sending.{sentBytes, Sendable};
 ghost use Rattle.crc.specs.Bits.{Below};
 ghost use Rattle.moves.specs.Indices.{among};
+
+// Whether a command is one for the bus.
+fn on_bus(index: u8) -> bool
+    ensures { λ r. ⌜ r ≡ among index busIndices ⌝ }
+{
+    match index {
+        0..=4 | 7 | 9..=10 | 13 | 15 => true,
+        _ => false,
+    }
+}
+
+// What a frame asks of a bus of so many cards: 13, 1, 2, 3, 14, and else a command.
+pub fn asked_of(count: usize, frame: &[u8]) -> Asked
+    ensures { λ r. ⌜ r ≡ busAsked count (now (frame .entry)) ⌝ }
+{
+    if count < 1 {
+        return Asked::Refused(Refusal::BusCards);
+    }
+    let framing = wire::unframe(frame);
+    match framing {
+        Framing::Framed {
+            index,
+            argument,
+            crc_right,
+        } => {
+            if !crc_right {
+                return Asked::Damaged;
+            }
+            if !on_bus(index) {
+                return Asked::Refused(Refusal::BusIndex);
+            }
+            Asked::Command { index, argument }
+        }
+        Framing::Unframed(refusal) => Asked::Refused(refusal),
+    }
+}
+
+// The line before anyone sends.
+pub fn quiet() -> Heard
+    ensures { λ r. ⌜ r ≡ quiet ⌝ }
+{
+    Heard {
+        line: [0xFF; 17],
+        length: 0,
+    }
+}
 
 fn longer(a: usize, b: usize) -> usize
     ensures { λ r. ⌜ r ≡ max a b ⌝ }
@@ -50,21 +95,42 @@ fn hear(heard: Heard, registers: Registers, sent: Sent) -> Heard
     }
 }
 
-// One card's turn.
-fn turn(heard: Heard, card: Card, wins: bool, index: u8, argument: u32) -> Turned
-    requires { ⌜ (heard .length ≤ 17) × (index ≤ 63) ⌝ }
-    ensures answer { λ r. ⌜ r ≡ turnOf heard card wins index argument ⌝ }
-    ensures short { λ r. ⌜ r .heard .length ≤ 17 ⌝ }
+// What a command meets at a card of the bus.
+fn met_by(card: Card, wins: bool) -> Met
+    ensures { λ r. ⌜ r ≡ metBy card wins ⌝ }
 {
-    let met = Met {
+    Met {
         ocr: card.registers.ocr,
         groups: card.registers.groups,
         locked: card.lock.locked,
         wins,
-    };
+    }
+}
+
+// What a command finds at a card, which is only looked at.
+pub fn decide(card: Card, wins: bool, index: u8, argument: u32) -> Decided
+    ensures { λ r. ⌜ r ≡ decidedOf (card .link) (metBy card wins) index argument ⌝ }
+{
+    let link = card.link;
+    command::decide(link, met_by(card, wins), index, argument)
+}
+
+// One card's turn, as it was decided.
+pub fn turn(
+    heard: Heard,
+    card: Card,
+    wins: bool,
+    index: u8,
+    argument: u32,
+    decided: Decided,
+) -> Turned
+    requires { ⌜ (heard .length ≤ 17) × (index ≤ 63) × (decided ≡ decidedOf (card .link) (metBy card wins) index argument) ⌝ }
+    ensures answer { λ r. ⌜ r ≡ turnOf heard card wins index argument ⌝ }
+    ensures short { λ r. ⌜ r .heard .length ≤ 17 ⌝ }
+{
     let link = card.link;
     let registers = card.registers;
-    let given = command::command(link, met, index, argument);
+    let given = command::follow(link, met_by(card, wins), index, argument, decided);
     let next = given.link;
     let sent = given.sent;
     Turned {
@@ -73,75 +139,27 @@ fn turn(heard: Heard, card: Card, wins: bool, index: u8, argument: u32) -> Turne
     }
 }
 
-// What the line shows, and zeros behind it.
-fn show(bus: Bus, heard: Heard) -> Framed
+// What the line shows.
+pub fn shown_by(heard: Heard) -> Shown
     requires { ⌜ heard .length ≤ 17 ⌝ }
-    ensures answer { λ r. ⌜ r ≡ shownFrom bus heard ⌝ }
+    ensures { λ r. ⌜ r ≡ shownOf (sentOn heard) ⌝ }
+{
+    let length = heard.length;
+    if length < 1 {
+        return Shown::Silent;
+    }
+    Shown::Line(length)
+}
+
+// Its bytes, and zeros behind them.
+pub fn line_by(heard: Heard) -> [u8; 17]
+    requires { ⌜ heard .length ≤ 17 ⌝ }
+    ensures answer { λ r. ⌜ r ≡ padded (sentOn heard) ⌝ }
     ensures bytes { λ _. ⌜ Below 256 (heard .line) ⌝ }
 {
     let length = heard.length;
     let held = heard.line;
     let mut line = [0; 17];
-    let mut i: usize = 0;
-    while i < length {
-        line[i] = held[i];
-        i += 1;
-    }
-    if length < 1 {
-        return Framed {
-            bus,
-            shown: Shown::Silent,
-            line,
-        };
-    }
-    Framed {
-        bus,
-        shown: Shown::Line(length),
-        line,
-    }
-}
-
-// A command for all cards, in the order of their places.
-fn tell(bus: Bus, index: u8, argument: u32) -> Framed
-    requires { ⌜ index ≤ 63 ⌝ }
-    ensures { λ r. ⌜ r ≡ toldOf bus index argument ⌝ }
-{
-    let low = lowest(bus, index);
-    let end = places(bus.count);
-    let mut next = bus;
-    let mut heard = Heard {
-        line: [0xFF; 17],
-        length: 0,
-    };
-    let mut i: usize = 0;
-    while i < end {
-        let card = next.cards[i];
-        let won = wins(low, card);
-        let turned = turn(heard, card, won, index, argument);
-        let after = turned.card;
-        next.cards[i] = after;
-        heard = turned.heard;
-        i += 1;
-    }
-    show(next, heard)
-}
-
-// Whether a command is one for the bus.
-fn on_bus(index: u8) -> bool
-    ensures { λ r. ⌜ r ≡ among index busIndices ⌝ }
-{
-    match index {
-        0..=4 | 7 | 9..=10 | 13 | 15 => true,
-        _ => false,
-    }
-}
-
-// A command for all cards: 14 where it is not one for the bus.
-pub fn command_for(bus: Bus, index: u8, argument: u32) -> Framed
-    ensures answer { λ r. ⌜ r ≡ commandFor bus index argument ⌝ }
-{
-    if !on_bus(index) {
-        return refuse(bus, Refusal::BusIndex);
-    }
-    tell(bus, index, argument)
+    copy(&held[0..length], &mut line, 0);
+    line
 }

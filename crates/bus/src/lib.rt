@@ -8,8 +8,14 @@ mod hearing;
 
 use base::Refusal;
 use card_record::Card;
-use hearing::command_for;
-use wire::Framing;
+use contest::lowest;
+use contest::wins;
+use hearing::asked_of;
+use hearing::decide;
+use hearing::line_by;
+use hearing::quiet;
+use hearing::shown_by;
+use hearing::turn;
 ghost use mathlib.Core.List.{map};
 ghost use mathlib.Core.Path.{_≡_};
 ghost use Prim.Native.Nat.{min};
@@ -44,6 +50,14 @@ pub struct Framed {
     pub bus: Bus,
     pub shown: Shown,
     pub line: [u8; 17],
+}
+
+// What a frame asks of a bus: a command of all its cards; that they are told of a wrong CRC7; or
+// nothing, and the refusal.
+pub enum Asked {
+    Command { index: u8, argument: u32 },
+    Damaged,
+    Refused(Refusal),
 }
 
 // A card, and whether the place was taken.
@@ -169,26 +183,44 @@ fn damage(bus: Bus) -> Bus
     next
 }
 
-// A frame for all cards: 13, 1, 2, 3, 14.
+// A frame for all cards: 13, 1, 2, 3, 14. Each card takes a command in its turn, in the order of
+// their places, and what it sends is ANDed into the line; one that is left alone stays in its place.
+// The loop stands here, since each function that hands the bus on copies all of it twice.
 pub fn frame(bus: Bus, frame: &[u8]) -> Framed
     ensures answer { λ r. ⌜ r ≡ busFrame bus (now (frame .entry)) ⌝ }
 {
-    if places(bus.count) < 1 {
-        return refuse(bus, Refusal::BusCards);
-    }
-    let framing = wire::unframe(frame);
-    match framing {
-        Framing::Framed {
-            index,
-            argument,
-            crc_right,
-        } => {
-            if crc_right {
-                command_for(bus, index, argument)
-            } else {
-                refuse(damage(bus), Refusal::FrameCrc)
-            }
+    let end = places(bus.count);
+    let asked = asked_of(end, frame);
+    match asked {
+        Asked::Refused(refusal) => {
+            return refuse(bus, refusal);
         }
-        Framing::Unframed(refusal) => refuse(bus, refusal),
+        Asked::Damaged => {
+            return refuse(damage(bus), Refusal::FrameCrc);
+        }
+        Asked::Command { index, argument } => {
+            let low = lowest(bus, index);
+            let mut next = bus;
+            let mut heard = quiet();
+            let mut i: usize = 0;
+            while i < end {
+                let seen = next.cards[i];
+                let won = wins(low, seen);
+                let decided = decide(seen, won, index, argument);
+                if !command::leaves_alone(decided) {
+                    let card = next.cards[i];
+                    let turned = turn(heard, card, won, index, argument, decided);
+                    let after = turned.card;
+                    next.cards[i] = after;
+                    heard = turned.heard;
+                }
+                i += 1;
+            }
+            return Framed {
+                bus: next,
+                shown: shown_by(heard),
+                line: line_by(heard),
+            };
+        }
     }
 }

@@ -13,8 +13,8 @@ use lib.Seq.{take-at, drop-append-le}
 use Rattle.playing.proofs.Joined.{ends}
 use Rattle.playing.specs.Playing.{keptOf}
 use Rattle.busline_records.proofs.Steps.{steady}
-use Rattle.busline_records.specs.Record.{roomy}
-use Rattle.busline_records.specs.Transcript.{stepOf, pieceOf, saidBy}
+use Rattle.busline_records.specs.Printing.{roomy}
+use Rattle.busline_records.specs.Transcript.{recordStep, pieceOf, saidBy}
 use Rattle.busline_records.specs.declared.Progress.{Progress}
 use Rattle.busline_records.specs.declared.Said.{Said}
 use Rattle.busline_player.specs.Turn.{turnedBy}
@@ -32,7 +32,7 @@ module _ (w : Progress) (b script : List ℕ) (n room r : ℕ) (said : Said) (ep
   -- what is left over is at the end of what was at hand
   over : (length (pieceOf w (take n b) room .left) ≤ length (take n b)) × (drop (said .used) (take n b) ≡ pieceOf w (take n b) room .left)
   unfolding pieceOf
-  over = let e = ends stepOf steady (room / roomy) w (take n b) in rw (ap (λ (x : Said). x .used) here) e
+  over = let e = ends recordStep steady (room / roomy) w (take n b) in rw (ap (λ (x : Said). x .used) here) e
 
   long : r ≡ length (pieceOf w (take n b) room .left)
   long = omega (arith, over .0, length-take n b, ap (λ (x : Said). x .used) here)

@@ -5,8 +5,8 @@
 --   Here       what holds after i records
 --   begin      before the first
 --   on         behind one with which the script goes on
---   less       which has a byte or more
---   over       at one that ends the piece, and
+--   taken      which has a byte or more
+--   over-stops, over-waits, over-full   at one that ends the piece, and
 --   all        where there is no room for another: the piece is played
 -- Assumes nothing.
 use mathlib.Core.Path.{_≡_, refl, sym, ap, ap₂, _∙_}
@@ -27,8 +27,9 @@ use Rattle.text.proofs.Writing.{wrote-part, wrote-both, wrote-none, wrote-as, w
 use Rattle.text.specs.Writing.{Wrote}
 use Rattle.busline_records.proofs.Steps.{uses}
 use Rattle.busline_records.specs.Reading.{askedOf}
-use Rattle.busline_records.specs.Record.{cardSaid, frameSaid, leftAt, putOff, askedText, askedSaid, roomy, textOf, saidOf}
-use Rattle.busline_records.specs.Transcript.{stepBy, stepOf, pieceOf, saidBy}
+use Rattle.busline_records.specs.Printing.{roomy}
+use Rattle.busline_records.specs.Record.{cardSaid, frameSaid, leftAt, putOff, askedText, askedSaid, textOf, saidOf}
+use Rattle.busline_records.specs.Transcript.{stepBy, recordStep, pieceOf, saidBy}
 use Rattle.busline_records.specs.declared.Asked.{Asked}
 use Rattle.busline_records.specs.declared.Asked.the-variants.{Card, Frame, BadKind, More}
 use Rattle.busline_records.specs.declared.Progress.{Progress}
@@ -98,7 +99,7 @@ asked-roomed w More s e = clash cc
 abbrev pub Finished : Progress → List ℕ → List ℕ → Said → List ℕ → Type 0
 Finished w s o r after = (r ≡ saidBy (pieceOf w s (length o)) (length s)) × (after ≡ pieceOf w s (length o) .text ++ drop (r .wrote) o)
 
-finish : (w : Progress) (s o after : List ℕ) (played : Played Progress) (u n : ℕ) (r : Said) → playedIn stepOf (length o / 64) w s ≡ played
+finish : (w : Progress) (s o after : List ℕ) (played : Played Progress) (u n : ℕ) (r : Said) → playedIn recordStep (length o / roomy) w s ≡ played
     → Wrote o after 0 n (played .text) → u ≡ length s - length (played .left) → r ≡ leftAt (played .kept) u n (played .then) → Finished w s o r after
 unfolding pieceOf
 finish w s o after played u n r ep et eu er = (
@@ -112,10 +113,10 @@ finish w s o after played u n r ep et eu er = (
 pub record Here (w : Progress) (s o : List ℕ) (lines : ℕ) (kept : Progress) (used written : ℕ) (out : List ℕ) (i : ℕ) : Type 0 where
   pub turns : i ≤ lines
   pub inside : used ≤ length s
-  pub short : written ≤ i * 64
+  pub short : written ≤ i * roomy
   pub same : length out ≡ length o
   pub text : Wrote o out 0 written (take written out)
-  pub rest : playedIn stepOf lines w s ≡ behind (take written out) (playedIn stepOf (lines - i) kept (drop used s))
+  pub rest : playedIn recordStep lines w s ≡ behind (take written out) (playedIn recordStep (lines - i) kept (drop used s))
 
 pub begin : (w : Progress) (s o : List ℕ) (lines : ℕ) → Here w s o lines w 0 0 o 0
 begin w s o lines =
@@ -126,22 +127,22 @@ begin w s o lines =
       short = omega arith;
       same = refl;
       text = wrote-none o;
-      rest = ap (λ (k : ℕ). playedIn stepOf k w s) n;
+      rest = ap (λ (k : ℕ). playedIn recordStep k w s) n;
     }
 
 -- a turn
 module _ (w : Progress) (s o : List ℕ) (lines : ℕ) (kept : Progress) (used written : ℕ) (out : List ℕ) (i : ℕ)
-    (here : Here w s o lines kept used written out i) (more : i < lines) (room : lines * 64 ≤ length o) (said : Said) (after : List ℕ)
+    (here : Here w s o lines kept used written out i) (more : i < lines) (room : lines * roomy ≤ length o) (said : Said) (after : List ℕ)
     (es : said ≡ saidOf kept (drop used s) (length out - written))
-    (et : Wrote out after written (written + said .wrote) (textOf kept (drop used s) (length out - written))) (long : said .wrote ≤ 64) where
+    (et : Wrote out after written (written + said .wrote) (textOf kept (drop used s) (length out - written))) (long : said .wrote ≤ roomy) where
   roomed : leb roomy (length out - written) ≡ true
   roomed =
       let h = here .short in
       let l = here .same in
       le-leb roomy (length out - written) (omega arith)
 
-  stepped : stepOf kept (drop used s) ≡ stepBy (textOf kept (drop used s) (length out - written)) said
-  unfolding stepOf textOf saidOf
+  stepped : recordStep kept (drop used s) ≡ stepBy (textOf kept (drop used s) (length out - written)) said
+  unfolding recordStep textOf saidOf
   stepped = rw (es, roomed) refl
 
   text-on : Wrote o after 0 (written + said .wrote) (take written out ++ textOf kept (drop used s) (length out - written))
@@ -151,7 +152,7 @@ module _ (w : Progress) (s o : List ℕ) (lines : ℕ) (kept : Progress) (used w
   count = omega arith
 
   -- the step's field by the answer's
-  then-of : (t : Then) → said .then ≡ t → stepOf kept (drop used s) .then ≡ t
+  then-of : (t : Then) → said .then ≡ t → recordStep kept (drop used s) .then ≡ t
   then-of t e = ap (λ (x : Step Progress). x .then) stepped ∙ e
 
   pub taken : said .then ≡ Goes → (1 ≤ said .used) × (used + said .used ≤ length s)
@@ -176,21 +177,21 @@ module _ (w : Progress) (s o : List ℕ) (lines : ℕ) (kept : Progress) (used w
         rest =
             here .rest
             ∙ ap (λ (p : Played Progress). behind (take written out) p)
-            (ap (λ (k : ℕ). playedIn stepOf k kept rest) count
-            ∙ goes stepOf n kept rest (then-of Goes e)
-            ∙ ap (λ (x : Step Progress). behind (x .line) (playedIn stepOf n (x .kept) (drop (x .used) rest))) stepped)
-            ∙ behind-both (take written out) (textOf kept rest (length out - written)) (playedIn stepOf n (said .progress) (drop (said .used) rest))
-            ∙ ap₂ (λ (t x : List ℕ). behind t (playedIn stepOf n (said .progress) x)) (sym (text-on .front)) (drop-drop (said .used) used s);
+            (ap (λ (k : ℕ). playedIn recordStep k kept rest) count
+            ∙ goes recordStep n kept rest (then-of Goes e)
+            ∙ ap (λ (x : Step Progress). behind (x .line) (playedIn recordStep n (x .kept) (drop (x .used) rest))) stepped)
+            ∙ behind-both (take written out) (textOf kept rest (length out - written)) (playedIn recordStep n (said .progress) (drop (said .used) rest))
+            ∙ ap₂ (λ (t x : List ℕ). behind t (playedIn recordStep n (said .progress) x)) (sym (text-on .front)) (drop-drop (said .used) used s);
       }
 
   -- the turn at which the piece ends
-  module _ (ends : lines ≡ length o / 64) where
-    played-as : (played : Played Progress) → playedIn stepOf (suc (lines - (i + 1))) kept (drop used s) ≡ played
-        → playedIn stepOf (length o / 64) w s ≡ behind (take written out) played
+  module _ (ends : lines ≡ length o / roomy) where
+    played-as : (played : Played Progress) → playedIn recordStep (suc (lines - (i + 1))) kept (drop used s) ≡ played
+        → playedIn recordStep (length o / roomy) w s ≡ behind (take written out) played
     played-as played e =
-        ap (λ (k : ℕ). playedIn stepOf k w s) (sym ends)
+        ap (λ (k : ℕ). playedIn recordStep k w s) (sym ends)
         ∙ here .rest
-        ∙ ap (λ (p : Played Progress). behind (take written out) p) (ap (λ (k : ℕ). playedIn stepOf k kept (drop used s)) count ∙ e)
+        ∙ ap (λ (p : Played Progress). behind (take written out) p) (ap (λ (k : ℕ). playedIn recordStep k kept (drop used s)) count ∙ e)
 
     pub over-stops : (r : Said) → said .then ≡ Stops → r ≡ leftAt (said .progress) (length s) (written + said .wrote) Stops → Finished w s o r after
     over-stops r e er =
@@ -200,7 +201,7 @@ module _ (w : Progress) (s o : List ℕ) (lines : ℕ) (kept : Progress) (used w
         (behind (take written out) (record { text = textOf kept rest (length out - written); kept = said .progress; left = []; then = Stops }))
         (length s) (written + said .wrote) r
         (played-as (record { text = textOf kept rest (length out - written); kept = said .progress; left = []; then = Stops })
-        (stops stepOf n kept rest (then-of Stops e)
+        (stops recordStep n kept rest (then-of Stops e)
         ∙ ap (λ (x : Step Progress). record { text = x .line; kept = x .kept; left = []; then = Stops }) stepped))
         text-on (omega arith) er
 
@@ -221,7 +222,7 @@ module _ (w : Progress) (s o : List ℕ) (lines : ℕ) (kept : Progress) (used w
         let d = length-drop used s in
         let l = here .inside in
         finish w s o after (behind (take written out) (unplayed kept rest Waits)) used (written + said .wrote) r
-        (played-as (unplayed kept rest Waits) (waits stepOf n kept rest (then-of Waits e)))
+        (played-as (unplayed kept rest Waits) (waits recordStep n kept rest (then-of Waits e)))
         (wrote-as (ap (λ (x : List ℕ). take written out ++ x) (line-here ∙ idle .0)) text-on)
         (omega arith)
         (er ∙ ap (λ (x : Said). leftAt (x .progress) used (written + said .wrote) Waits) none-said)
@@ -230,15 +231,15 @@ module _ (w : Progress) (s o : List ℕ) (lines : ℕ) (kept : Progress) (used w
     over-full r e = asked-roomed kept (askedOf (drop used s)) (drop used s) (ap (λ (x : Said). x .then) (sym asked-here) ∙ e)
 
 pub all : (w : Progress) (s o : List ℕ) (lines : ℕ) (kept : Progress) (used written : ℕ) (out : List ℕ) (i : ℕ) (r : Said)
-    → Here w s o lines kept used written out i → lines ≤ i → lines ≡ length o / 64 → r ≡ leftAt kept used written NoRoom → Finished w s o r out
+    → Here w s o lines kept used written out i → lines ≤ i → lines ≡ length o / roomy → r ≡ leftAt kept used written NoRoom → Finished w s o r out
 all w s o lines kept used written out i r here h ends er =
     let t = here .turns in
     let z : lines - i ≡ 0 = omega arith in
     let d = length-drop used s in
     let l = here .inside in
     finish w s o out (behind (take written out) (unplayed kept (drop used s) NoRoom)) used written r
-    (ap (λ (k : ℕ). playedIn stepOf k w s) (sym ends)
+    (ap (λ (k : ℕ). playedIn recordStep k w s) (sym ends)
     ∙ here .rest
-    ∙ ap (λ (p : Played Progress). behind (take written out) p) (ap (λ (k : ℕ). playedIn stepOf k kept (drop used s)) z ∙ none stepOf kept (drop used s)))
+    ∙ ap (λ (p : Played Progress). behind (take written out) p) (ap (λ (k : ℕ). playedIn recordStep k kept (drop used s)) z ∙ none recordStep kept (drop used s)))
     (wrote-as (sym (append-nil (take written out))) (here .text))
     (omega arith) er

@@ -29,7 +29,7 @@ use Rattle.busline_records.specs.Cards.{madeWith, cardMade}
 use Rattle.busline_records.specs.Printing.{addedText}
 use Rattle.busline_records.specs.Reading.{complete, kindAsked, askedOf, registerOf}
 use Rattle.busline_records.specs.Record.{freshProgress, goneOn, cardText, cardSaid, frameText, frameSaid, askedText, askedSaid}
-use Rattle.busline_records.specs.Transcript.{stepBy, stepOf, closed, transcript}
+use Rattle.busline_records.specs.Transcript.{stepBy, recordStep, closed, transcript}
 use Rattle.busline_records.specs.declared.Asked.{Asked}
 use Rattle.busline_records.specs.declared.Asked.the-variants.{Card as OfCard, Frame, BadKind, More}
 use Rattle.busline_records.specs.declared.Progress.{Progress}
@@ -68,8 +68,8 @@ asked-uses w s Frame h e = (omega arith, h)
 asked-uses w s BadKind h e = clash cc
 asked-uses w s More h e = clash cc
 
-pub uses : (w : Progress) (s : List ℕ) → stepOf w s .then ≡ Goes → (1 ≤ stepOf w s .used) × (stepOf w s .used ≤ length s)
-unfolding stepOf
+pub uses : (w : Progress) (s : List ℕ) → recordStep w s .then ≡ Goes → (1 ≤ recordStep w s .used) × (recordStep w s .used ≤ length s)
+unfolding recordStep
 uses w s e = asked-uses w s (askedOf s) (asked-long s) e
 
 none : askedOf [] ≡ More
@@ -127,22 +127,22 @@ step-stays w s more Frame h = rw (body-stays 6 s more h) refl
 step-stays w s more BadKind h = refl
 step-stays w s more More h = refl
 
-waits : (w : Progress) (s : List ℕ) → askedOf s ≡ More → stepOf w s .then ≡ Waits
-unfolding stepOf askedSaid
+waits : (w : Progress) (s : List ℕ) → askedOf s ≡ More → recordStep w s .then ≡ Waits
+unfolding recordStep askedSaid
 waits w s e = rw e refl
 
-pub stays : (w : Progress) (s more : List ℕ) → (stepOf w s .then ≡ Waits → ⊥) → stepOf w (s ++ more) ≡ stepOf w s
-unfolding stepOf
+pub stays : (w : Progress) (s more : List ℕ) → (recordStep w s .then ≡ Waits → ⊥) → recordStep w (s ++ more) ≡ recordStep w s
+unfolding recordStep
 stays w s more h =
     ap (λ (asked : Asked). stepBy (askedText w asked (s ++ more)) (askedSaid w asked (s ++ more)))
     (asked-stays s more (λ (e : askedOf s ≡ More). h (waits w s e)))
     ∙ step-stays w s more (askedOf s) (asked-long s)
 
-pub steady : Steady stepOf
+pub steady : Steady recordStep
 steady = record { takes = λ w s e. uses w s e .0; inside = λ w s e. uses w s e .1; stays = stays }
 
-pub pieces : (w : Progress) (a b : List ℕ) → playedOf stepOf w (a ++ b) ≡ nextPiece stepOf (playedOf stepOf w a) b
-pieces w a b = joined stepOf steady b w a
+pub pieces : (w : Progress) (a b : List ℕ) → playedOf recordStep w (a ++ b) ≡ nextPiece recordStep (playedOf recordStep w a) b
+pieces w a b = joined recordStep steady b w a
 
 -- what is said where too few bytes are there
 abbrev Few : List ℕ → Asked → Type 0
@@ -172,21 +172,21 @@ asked-waits w s Frame e = clash cc
 asked-waits w s BadKind e = clash cc
 asked-waits w s More e = refl
 
-pub few : (w : Progress) (s : List ℕ) → stepOf w s .then ≡ Waits → length s ≤ 15
-unfolding stepOf
+pub few : (w : Progress) (s : List ℕ) → recordStep w s .then ≡ Waits → length s ≤ 15
+unfolding recordStep
 few w s e = asked-few s (asked-waits w s (askedOf s) e)
 
-pub empty : (w : Progress) → stepOf w [] .then ≡ Waits
+pub empty : (w : Progress) → recordStep w [] .then ≡ Waits
 empty w = waits w [] none
 
 -- n records at a turn
 module _ (n : ℕ) (pieces : List (List ℕ)) where
-  pub read-to-end : fedAll stepOf n (unplayed freshProgress [] Waits) pieces .then ≡ Waits
-      → closed (fedAll stepOf n (unplayed freshProgress [] Waits) pieces) ≡ transcript (allOf pieces)
+  pub read-to-end : fedAll recordStep n (unplayed freshProgress [] Waits) pieces .then ≡ Waits
+      → closed (fedAll recordStep n (unplayed freshProgress [] Waits) pieces) ≡ transcript (allOf pieces)
   unfolding transcript
-  read-to-end e = ap closed (waited-whole stepOf steady n freshProgress pieces (empty freshProgress) e)
+  read-to-end e = ap closed (waited-whole recordStep steady n freshProgress pieces (empty freshProgress) e)
 
-  pub read-to-stop : fedAll stepOf n (unplayed freshProgress [] Waits) pieces .then ≡ Stops
-      → closed (fedAll stepOf n (unplayed freshProgress [] Waits) pieces) ≡ transcript (allOf pieces)
+  pub read-to-stop : fedAll recordStep n (unplayed freshProgress [] Waits) pieces .then ≡ Stops
+      → closed (fedAll recordStep n (unplayed freshProgress [] Waits) pieces) ≡ transcript (allOf pieces)
   unfolding transcript
-  read-to-stop e = ap closed (stopped-whole stepOf steady n freshProgress pieces (empty freshProgress) e)
+  read-to-stop e = ap closed (stopped-whole recordStep steady n freshProgress pieces (empty freshProgress) e)

@@ -15,6 +15,7 @@
 --   no-room-stops       an output without room for a line taken for the end of a script
 --   cut-early           `cut` for half a record while more bytes may come
 --   half-lost           the bytes of half a record not left over
+--   waiting-full        a record that is waited for told as one without room
 --   first-only          of two frames the first alone played
 --   past-a-stop         a frame played behind an unknown kind
 --   mute, uncut         nothing printed of a frame; nothing of half a record at the end of the input
@@ -38,9 +39,9 @@ use Rattle.wire.specs.Responses.{lastByte}
 use Rattle.busline_records.specs.Printing.{addedText, shownText}
 use Rattle.busline_records.specs.Reading.{askedOf, registerOf, identifierOf}
 use Rattle.playing.specs.Playing.{playedIn, playedOf}
-use Rattle.playing.specs.declared.Then.the-variants.{Stops}
+use Rattle.playing.specs.declared.Then.the-variants.{Stops, NoRoom}
 use Rattle.busline_records.specs.Record.{freshProgress, frameText, frameSaid, askedText, askedSaid, saidOf}
-use Rattle.busline_records.specs.Transcript.{stepOf, pieceOf, transcript}
+use Rattle.busline_records.specs.Transcript.{recordStep, pieceOf, transcript}
 use Rattle.busline_records.specs.declared.Asked.the-variants.{Card, Frame, More}
 
 cut-taken : askedOf (1 ∷ replicate 14 0) ≡ Card → ⊥
@@ -101,25 +102,29 @@ no-room-stops e = let z : _≡_ {A = ℕ} 0 1 = cc in omega arith
 
 -- the first half of a frame's record, in an output of two longest lines
 cut-early : length (pieceOf freshProgress (take 3 cmd0) 128 .text) ≡ 4 → ⊥
-unfolding transcript pieceOf playedOf playedIn stepOf freshProgress emptyBus askedOf askedText askedSaid frameText frameSaid shownText busFrame plainLine namedLine numberText decimalOf digitsOf
+unfolding transcript pieceOf playedOf playedIn recordStep freshProgress emptyBus askedOf askedText askedSaid frameText frameSaid shownText busFrame plainLine namedLine numberText decimalOf digitsOf
 cut-early e = omega arith
 
 half-lost : length (pieceOf freshProgress (take 3 cmd0) 128 .left) ≡ 0 → ⊥
-unfolding transcript pieceOf playedOf playedIn stepOf freshProgress emptyBus askedOf askedText askedSaid frameText frameSaid shownText busFrame plainLine namedLine numberText decimalOf digitsOf
+unfolding transcript pieceOf playedOf playedIn recordStep freshProgress emptyBus askedOf askedText askedSaid frameText frameSaid shownText busFrame plainLine namedLine numberText decimalOf digitsOf
 half-lost e = omega arith
 
+waiting-full : pieceOf freshProgress (take 3 cmd0) 128 .then ≡ NoRoom → ⊥
+unfolding transcript pieceOf playedOf playedIn recordStep freshProgress emptyBus askedOf askedText askedSaid frameText frameSaid shownText busFrame plainLine namedLine numberText decimalOf digitsOf
+waiting-full e = let z : _≡_ {A = ℕ} 0 1 = cc in omega arith
+
 first-only : pieceOf freshProgress (cmd0 ++ cmd0) 128 .kept .count ≡ 1 → ⊥
-unfolding transcript pieceOf playedOf playedIn stepOf freshProgress emptyBus askedOf askedText askedSaid frameText frameSaid shownText busFrame plainLine namedLine numberText decimalOf digitsOf
+unfolding transcript pieceOf playedOf playedIn recordStep freshProgress emptyBus askedOf askedText askedSaid frameText frameSaid shownText busFrame plainLine namedLine numberText decimalOf digitsOf
 first-only e = omega arith
 
 past-a-stop : transcript (3 ∷ cmd0) ≡ ascii "bad kind\nrefused 13\n" → ⊥
-unfolding transcript pieceOf playedOf playedIn stepOf freshProgress emptyBus askedOf askedText askedSaid frameText frameSaid shownText busFrame plainLine namedLine numberText decimalOf digitsOf
+unfolding transcript pieceOf playedOf playedIn recordStep freshProgress emptyBus askedOf askedText askedSaid frameText frameSaid shownText busFrame plainLine namedLine numberText decimalOf digitsOf
 past-a-stop e = let n = ap length e in omega arith
 
 mute : transcript cmd0 ≡ [] → ⊥
-unfolding transcript pieceOf playedOf playedIn stepOf freshProgress emptyBus askedOf askedText askedSaid frameText frameSaid shownText busFrame plainLine namedLine numberText decimalOf digitsOf
+unfolding transcript pieceOf playedOf playedIn recordStep freshProgress emptyBus askedOf askedText askedSaid frameText frameSaid shownText busFrame plainLine namedLine numberText decimalOf digitsOf
 mute e = let n = ap length e in omega arith
 
 uncut : transcript (take 3 cmd0) ≡ [] → ⊥
-unfolding transcript pieceOf playedOf playedIn stepOf freshProgress emptyBus askedOf askedText askedSaid frameText frameSaid shownText busFrame plainLine namedLine numberText decimalOf digitsOf
+unfolding transcript pieceOf playedOf playedIn recordStep freshProgress emptyBus askedOf askedText askedSaid frameText frameSaid shownText busFrame plainLine namedLine numberText decimalOf digitsOf
 uncut e = let n = ap length e in omega arith

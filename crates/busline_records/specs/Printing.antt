@@ -2,7 +2,7 @@
 -- Assumes nothing.
 use mathlib.Core.Bool.{Bool}
 use mathlib.Core.List.{List, []}
-use Prim.Native.Nat.{ℕ, _+_, _≤_}
+use Prim.Native.Nat.{ℕ, _+_}
 use lib.Dec.{eqb, leb}
 use lib.ListN.{length, take}
 use Rattle.base.specs.Choice.{pick}
@@ -13,7 +13,6 @@ use Rattle.bus.specs.declared.Adding.the-variants.{Place, Refused as NotAdded}
 use Rattle.bus.specs.declared.Shown.{Shown}
 use Rattle.bus.specs.declared.Shown.the-variants.{Line as Sent, Silent, Refused}
 use Rattle.text.specs.Lines.{wordLine, plainLine, namedLine, refusalLine}
-use Rattle.text.specs.Writing.{Put}
 use Rattle.text.specs.Words.{badKindWord, cutWord, lineWord, silentWord, cardWord}
 
 -- "Another kind prints `bad kind` .. and it stops"
@@ -45,7 +44,6 @@ shownText count (Sent n) line = wordLine count lineWord (take n line)
 shownText count Silent line = silentText count
 shownText count (Refused refusal) line = refusedText count refusal
 
--- a line at the front of an output, as far as there is room for it; none is longer than 64 bytes
-pub record Line (before after : List ℕ) (next : ℕ) (text : List ℕ) : Type 0 where
-  pub put : Put before after 0 next text
-  pub short : length text ≤ 64
+-- room for the longest line
+abbrev pub roomy : ℕ
+roomy = 64

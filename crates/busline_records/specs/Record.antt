@@ -11,7 +11,7 @@ use Rattle.bus.specs.declared.Framed.{Framed}
 use Rattle.playing.specs.declared.Then.{Then}
 use Rattle.playing.specs.declared.Then.the-variants.{Goes, Stops, Waits, NoRoom}
 use Rattle.busline_records.specs.Cards.{cardMade}
-use Rattle.busline_records.specs.Printing.{badKindText, addedText, shownText}
+use Rattle.busline_records.specs.Printing.{badKindText, addedText, shownText, roomy}
 use Rattle.busline_records.specs.Reading.{askedOf, frameBody}
 use Rattle.busline_records.specs.declared.Asked.{Asked}
 use Rattle.busline_records.specs.declared.Asked.the-variants.{Card, Frame, BadKind, More}
@@ -73,11 +73,7 @@ askedSaid w Frame s = frameSaid w s
 askedSaid w BadKind s = stoppedBy w badKindText
 askedSaid w More s = putOff w Waits
 
--- room for the longest line: an output without it is left alone
-abbrev pub roomy : ℕ
-roomy = 64
-
--- the record at the front of a script, with an output of so many bytes
+-- the record at the front of a script, with an output of so many bytes: one without room for the longest line is left alone
 unfoldable pub textOf : Progress → List ℕ → ℕ → List ℕ
 textOf w s room = unless (leb roomy room) [] (askedText w (askedOf s) s)
 

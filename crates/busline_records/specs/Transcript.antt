@@ -4,9 +4,9 @@ use mathlib.Core.List.{List, _++_}
 use Prim.Native.Nat.{ℕ, _-_, _/_}
 use lib.ListN.{length}
 use Rattle.playing.specs.Playing.{Step, Played, playedIn, playedOf}
-use Rattle.busline_records.specs.Printing.{cutText}
+use Rattle.busline_records.specs.Printing.{cutText, roomy}
 use Rattle.busline_records.specs.Reading.{askedOf}
-use Rattle.busline_records.specs.Record.{freshProgress, askedText, askedSaid, roomy}
+use Rattle.busline_records.specs.Record.{freshProgress, askedText, askedSaid}
 use Rattle.busline_records.specs.declared.Progress.{Progress}
 use Rattle.busline_records.specs.declared.Said.{Said}
 
@@ -14,12 +14,12 @@ use Rattle.busline_records.specs.declared.Said.{Said}
 abbrev pub stepBy : List ℕ → Said → Step Progress
 stepBy line said = record { line = line; kept = said .progress; used = said .used; then = said .then }
 
-unfoldable pub stepOf : Progress → List ℕ → Step Progress
-stepOf w s = stepBy (askedText w (askedOf s) s) (askedSaid w (askedOf s) s)
+unfoldable pub recordStep : Progress → List ℕ → Step Progress
+recordStep w s = stepBy (askedText w (askedOf s) s) (askedSaid w (askedOf s) s)
 
 -- the whole records of a piece of a script, as many as an output of so many bytes has room for longest lines
 unfoldable pub pieceOf : Progress → List ℕ → ℕ → Played Progress
-pieceOf w s room = playedIn stepOf (room / roomy) w s
+pieceOf w s room = playedIn recordStep (room / roomy) w s
 
 -- what is answered of a piece of so many bytes
 abbrev pub saidBy : Played Progress → ℕ → Said
@@ -30,4 +30,4 @@ abbrev pub closed : Played Progress → List ℕ
 closed played = played .text ++ cutText (played .left)
 
 unfoldable pub transcript : List ℕ → List ℕ
-transcript s = closed (playedOf stepOf freshProgress s)
+transcript s = closed (playedOf recordStep freshProgress s)

@@ -14,7 +14,7 @@ ghost use mathlib.Core.Path.{_≡_};
 ghost use Prim.Native.Nat.{_≤_};
 ghost use lib.ListN.{length};
 ghost use Rattle.busline_records.specs.Cards.{cardMade};
-ghost use Rattle.busline_records.specs.Printing.{badKindText};
+ghost use Rattle.busline_records.specs.Printing.{badKindText, roomy};
 ghost use Rattle.busline_records.specs.Record.{following, stoppedBy, putOff, cardText, cardSaid, frameText, frameSaid, askedText, askedSaid};
 ghost use Rattle.text.specs.Writing.{Wrote};
 
@@ -48,20 +48,20 @@ fn card_of(script: &[u8]) -> Card
 }
 
 fn stopped(progress: Progress, out: &mut [u8]) -> Said
-    requires { ⌜ 64 ≤ length (now out) ⌝ }
+    requires { ⌜ roomy ≤ length (now out) ⌝ }
     ensures answer { λ r. ⌜ r ≡ stoppedBy progress badKindText ⌝ }
     ensures text { λ r. ⌜ Wrote (now (out .entry)) (now (out .exit)) 0 (r .wrote) badKindText ⌝ }
-    ensures short { λ r. ⌜ r .wrote ≤ 64 ⌝ }
+    ensures short { λ r. ⌜ r .wrote ≤ roomy ⌝ }
 {
     let wrote = bad_kind_line(out);
     left(progress, 0, wrote, Then::Stops)
 }
 
 fn added(progress: Progress, script: &[u8], out: &mut [u8]) -> Said
-    requires { ⌜ 64 ≤ length (now out) ⌝ }
+    requires { ⌜ roomy ≤ length (now out) ⌝ }
     ensures answer { λ r. ⌜ r ≡ cardSaid progress (now (script .entry)) ⌝ }
     ensures text { λ r. ⌜ Wrote (now (out .entry)) (now (out .exit)) 0 (r .wrote) (cardText progress (now (script .entry))) ⌝ }
-    ensures short { λ r. ⌜ r .wrote ≤ 64 ⌝ }
+    ensures short { λ r. ⌜ r .wrote ≤ roomy ⌝ }
 {
     let card = card_of(script);
     let bus = progress.bus;
@@ -82,10 +82,10 @@ fn added(progress: Progress, script: &[u8], out: &mut [u8]) -> Said
 
 // A refused frame counts as any other does.
 fn framed(progress: Progress, script: &[u8], out: &mut [u8]) -> Said
-    requires { ⌜ 64 ≤ length (now out) ⌝ }
+    requires { ⌜ roomy ≤ length (now out) ⌝ }
     ensures answer { λ r. ⌜ r ≡ frameSaid progress (now (script .entry)) ⌝ }
     ensures text { λ r. ⌜ Wrote (now (out .entry)) (now (out .exit)) 0 (r .wrote) (frameText progress (now (script .entry))) ⌝ }
-    ensures short { λ r. ⌜ r .wrote ≤ 64 ⌝ }
+    ensures short { λ r. ⌜ r .wrote ≤ roomy ⌝ }
 {
     let count = next(progress.count);
     let frame = part(script, 1, 6);
@@ -104,10 +104,10 @@ fn framed(progress: Progress, script: &[u8], out: &mut [u8]) -> Said
 }
 
 pub fn carry(progress: Progress, asked: Asked, script: &[u8], out: &mut [u8]) -> Said
-    requires { ⌜ 64 ≤ length (now out) ⌝ }
+    requires { ⌜ roomy ≤ length (now out) ⌝ }
     ensures answer { λ r. ⌜ r ≡ askedSaid progress asked (now (script .entry)) ⌝ }
     ensures text { λ r. ⌜ Wrote (now (out .entry)) (now (out .exit)) 0 (r .wrote) (askedText progress asked (now (script .entry))) ⌝ }
-    ensures short { λ r. ⌜ r .wrote ≤ 64 ⌝ }
+    ensures short { λ r. ⌜ r .wrote ≤ roomy ⌝ }
 {
     match asked {
         Asked::Card => added(progress, script, out),

@@ -23,9 +23,13 @@ ghost use mathlib.Core.Path.{_≡_};
 ghost use mathlib.Core.List.{_++_};
 ghost use Prim.Native.Nat.{_+_, _-_, _≤_};
 ghost use lib.ListN.{length, drop};
+ghost use Rattle.busline_records.specs.Printing.{roomy};
 ghost use Rattle.busline_records.specs.Record.{freshProgress, leftAt, textOf, saidOf};
 ghost use Rattle.busline_records.specs.Transcript.{pieceOf, saidBy};
 ghost use Rattle.text.specs.Writing.{Wrote};
+
+// Room for the longest line.
+const ROOMY: usize = 64;
 
 // What a record asks for: a card with the identifier in its body, a frame, nothing that is known, or
 // more bytes than there are.
@@ -65,9 +69,9 @@ pub fn fresh() -> Progress
 pub fn carry_out(progress: Progress, script: &[u8], out: &mut [u8]) -> Said
     ensures answer { λ r. ⌜ r ≡ saidOf progress (now (script .entry)) (length (now (out .entry))) ⌝ }
     ensures text { λ r. ⌜ now (out .exit) ≡ textOf progress (now (script .entry)) (length (now (out .entry))) ++ drop (r .wrote) (now (out .entry)) ⌝ }
-    ensures short { λ r. ⌜ r .wrote ≤ 64 ⌝ }
+    ensures short { λ r. ⌜ r .wrote ≤ roomy ⌝ }
 {
-    if out.len() < 64 {
+    if out.len() < ROOMY {
         return put_off(progress, Then::NoRoom);
     }
     let asked = read(script);
@@ -79,7 +83,7 @@ fn turn(progress: Progress, script: &[u8], at: usize, out: &mut [u8], wrote: usi
     requires { ⌜ wrote ≤ length (now out) ⌝ }
     ensures answer { λ r. ⌜ r ≡ saidOf progress (drop at (now (script .entry))) (length (now (out .entry)) - wrote) ⌝ }
     ensures text { λ r. ⌜ Wrote (now (out .entry)) (now (out .exit)) wrote (wrote + r .wrote) (textOf progress (drop at (now (script .entry))) (length (now (out .entry)) - wrote)) ⌝ }
-    ensures short { λ r. ⌜ r .wrote ≤ 64 ⌝ }
+    ensures short { λ r. ⌜ r .wrote ≤ roomy ⌝ }
 {
     let rest = part(script, at, script.len());
     carry_out(progress, rest, &mut out[wrote..])
@@ -91,7 +95,7 @@ pub fn play(progress: Progress, script: &[u8], out: &mut [u8]) -> Said
     ensures answer { λ r. ⌜ r ≡ saidBy (pieceOf progress (now (script .entry)) (length (now (out .entry)))) (length (now (script .entry))) ⌝ }
     ensures text { λ r. ⌜ now (out .exit) ≡ pieceOf progress (now (script .entry)) (length (now (out .entry))) .text ++ drop (r .wrote) (now (out .entry)) ⌝ }
 {
-    let lines = out.len() / 64;
+    let lines = out.len() / ROOMY;
     let mut kept = progress;
     let mut used: usize = 0;
     let mut wrote: usize = 0;

@@ -1,4 +1,4 @@
-// The lines, none of which has more than 64 bytes. Each function writes its line at the front of the
+// The lines, none of which is longer than the room for one. Each function writes its line at the front of the
 // output, as far as there is room, and answers how many bytes it wrote.
 use base::Refusal;
 use bus::Adding;
@@ -11,11 +11,11 @@ use text::parts::part;
 ghost use mathlib.Core.Path.{_≡_};
 ghost use Prim.Native.Nat.{ℕ, _<_};
 ghost use Rattle.bus.specs.declared.Adding.the-variants.{Place};
-ghost use Rattle.busline_records.specs.Printing.{printsSilent, badKindText, cutText, addedText, refusedText, shownText, Line};
-ghost use Rattle.text.specs.Writing.{Put};
+ghost use Rattle.busline_records.specs.Printing.{printsSilent, badKindText, cutText, addedText, refusedText, shownText, roomy};
+ghost use Rattle.text.specs.Writing.{Put, Line};
 
 pub fn bad_kind_line(out: &mut [u8]) -> usize
-    ensures { λ r. ⌜ Line (now (out .entry)) (now (out .exit)) r badKindText ⌝ }
+    ensures { λ r. ⌜ Line roomy (now (out .entry)) (now (out .exit)) r badKindText ⌝ }
 {
     plain(b"bad kind", out)
 }
@@ -32,7 +32,7 @@ pub fn cut(rest: &[u8], out: &mut [u8]) -> usize
 
 pub fn added_line(adding: Adding, out: &mut [u8]) -> usize
     requires { ⌜ ((n : ℕ) → adding ≡ Place n → n < 30) ⌝ }
-    ensures { λ r. ⌜ Line (now (out .entry)) (now (out .exit)) r (addedText adding) ⌝ }
+    ensures { λ r. ⌜ Line roomy (now (out .entry)) (now (out .exit)) r (addedText adding) ⌝ }
 {
     match adding {
         Adding::Place(place) => named(b"card", place as u64 + 1, out),
@@ -48,7 +48,7 @@ fn prints_silent(why: Refusal) -> bool
 }
 
 fn refused_line(count: u64, why: Refusal, out: &mut [u8]) -> usize
-    ensures { λ r. ⌜ Line (now (out .entry)) (now (out .exit)) r (refusedText count why) ⌝ }
+    ensures { λ r. ⌜ Line roomy (now (out .entry)) (now (out .exit)) r (refusedText count why) ⌝ }
 {
     if prints_silent(why) {
         return say(count, b"silent", b"", out);
@@ -57,7 +57,7 @@ fn refused_line(count: u64, why: Refusal, out: &mut [u8]) -> usize
 }
 
 pub fn shown_line(count: u64, shown: Shown, line: [u8; 17], out: &mut [u8]) -> usize
-    ensures { λ r. ⌜ Line (now (out .entry)) (now (out .exit)) r (shownText count shown line) ⌝ }
+    ensures { λ r. ⌜ Line roomy (now (out .entry)) (now (out .exit)) r (shownText count shown line) ⌝ }
 {
     match shown {
         Shown::Line(n) => {

@@ -36,7 +36,10 @@ use Rattle.states.specs.declared.State.the-variants.{Idle, Ready, Ident, Stby, 
 use Rattle.status.specs.ErrorBits.{errorBit}
 use Rattle.status.specs.declared.Fault.{Fault}
 use Rattle.status.specs.declared.Fault.the-variants.{None, Bit}
-use Rattle.store.specs.Map.{lentRight, protectedIn}
+use Rattle.store.proofs.OnceLent.{once-lent}
+use Rattle.store.specs.Lent.{Seen, lendingOf}
+use Rattle.store.specs.Map.{protectedIn}
+use Rattle.store.specs.declared.Lending.the-variants.{Right}
 use Rattle.wire.specs.Blocks.{payloadOf, crcIn as toldCrc}
 use Rattle.wire.specs.Frames.{crc7Of, field, fieldsOf, framingOf, checked, frameOf}
 use Rattle.wire.specs.declared.Frame.the-variants.{Command}
@@ -44,9 +47,8 @@ use Rattle.wire.specs.declared.Framing.{Framing}
 use Rattle.wire.specs.declared.Framing.the-variants.{Framed}
 use Rattle.card.specs.BlockIn.{beside, awaitedLength, afterStored, blockRefused, blockGood, writeJudged, lockJudged, requestJudged, carriedOut, awaitedJudged, unread, stateJudged, blockJudged}
 use Rattle.card.specs.BlockOut.{unsent, outRefused, outGood, afterSent, partJudged, protectionJudged, outgoingJudged, stateSends, outJudged}
-use Rattle.card.specs.Frame.{frameRefused, commanded, framed, frameJudged, sparedTold}
+use Rattle.card.specs.Frame.{FrameJudged, frameRefused, commanded, framed, frameJudged, sparedTold}
 use Rattle.card.specs.declared.BlockJudged.{BlockJudged}
-use Rattle.card.specs.declared.FrameJudged.{FrameJudged}
 use Rattle.card.specs.declared.OutJudged.{OutJudged}
 use Rattle.card.specs.declared.Sending.{Sending}
 use Rattle.card.specs.declared.Sending.the-variants.{Part, Protection as Bits}
@@ -82,23 +84,23 @@ pub data Refuses (card : Card) (incoming : Incoming) : Refusal → Fault → Typ
   failed : Refuses card incoming (by 20) (Bit (errorBit 24))
 
 -- a block is stored: 12, 16, 18 and 19 did not stop it
-pub record Storable (card : Card) (block : List ℕ) (memory : ℕ) (map : List ℕ) (sector : ℕ) : Type 0 where
-  pub lent : lentRight memory map (card .registers .groups) ≡ true
+pub record Storable (card : Card) (block : List ℕ) (seen : Seen) (sector : ℕ) : Type 0 where
+  pub lent : lendingOf seen (card .registers .groups) ≡ Right
   pub long : length block ≡ 514
   pub in-range : sector < sectors card
-  pub free : protectedIn map (csdProtects (card .registers .csd)) sector ≡ false
+  pub free : protectedIn (seen .map) (csdProtects (card .registers .csd)) sector ≡ false
 
 -- a block in: 12, 15; an awaited block refused; a sector stored; a lock request granted, a forced erase or another
-pub data InOutcome (card : Card) (block : List ℕ) (memory : ℕ) (map : List ℕ) : BlockJudged → Type 0 where
-  unreads : (n : ℕ) → among n (12 ∷ 15 ∷ []) ≡ true → InOutcome card block memory map (unread card (refusalOf n))
+pub data InOutcome (card : Card) (block : List ℕ) (seen : Seen) : BlockJudged → Type 0 where
+  unreads : (n : ℕ) → among n (12 ∷ 15 ∷ []) ≡ true → InOutcome card block seen (unread card (refusalOf n))
   refuses : (incoming : Incoming) (refusal : Refusal) (fault : Fault) → card .link .state ≡ Rcv incoming → Refuses card incoming refusal fault
-      → InOutcome card block memory map (blockRefused card incoming refusal fault)
-  stores : (incoming : Incoming) (at : ℕ) → WritesAt incoming at → card .link .state ≡ Rcv incoming → Storable card block memory map (at / 512)
-      → InOutcome card block memory map (blockGood card (afterStored incoming (at / 512 * 512 + 512)) (Sector (at / 512)))
+      → InOutcome card block seen (blockRefused card incoming refusal fault)
+  stores : (incoming : Incoming) (at : ℕ) → WritesAt incoming at → card .link .state ≡ Rcv incoming → Storable card block seen (at / 512)
+      → InOutcome card block seen (blockGood card (afterStored incoming (at / 512 * 512 + 512)) (Sector (at / 512)))
   grants : card .link .state ≡ Rcv LockRequest → askedOf card block .answer ≡ Granted
-      → InOutcome card block memory map (blockGood (withLock card (askedOf card block .lock)) Prg Nothing)
+      → InOutcome card block seen (blockGood (withLock card (askedOf card block .lock)) Prg Nothing)
   forces : card .link .state ≡ Rcv LockRequest → askedOf card block .answer ≡ Erased
-      → InOutcome card block memory map (blockGood (withLock card (askedOf card block .lock)) Prg All)
+      → InOutcome card block seen (blockGood (withLock card (askedOf card block .lock)) Prg All)
 
 -- a block out: 12, 15, 6; 18 with bit 31 and 21 with bit 30; a block sent, with the address behind it in the memory
 pub data OutOutcome (card : Card) : OutJudged → Type 0 where
@@ -109,16 +111,16 @@ pub data OutOutcome (card : Card) : OutJudged → Type 0 where
       → OutOutcome card (outGood card (afterSent outgoing next) n sending)
 
 -- a frame: 12, 1, 2; 3, with bit 23; a command that was read
-pub data FrameOutcome (card : Card) (wins : Bool) (frame : List ℕ) (memory : ℕ) (map : List ℕ) : FrameJudged → Type 0 where
-  unheard : (n : ℕ) → among n (12 ∷ 1 ∷ 2 ∷ []) ≡ true → FrameOutcome card wins frame memory map (frameRefused card (refusalOf n))
-  damaged : FrameOutcome card wins frame memory map (frameRefused (withLink card (damagedLink (card .link))) (by 3))
-  commands : (index argument : ℕ) → frameOf frame ≡ Command index argument → lentRight memory map (card .registers .groups) ≡ true
-      → FrameOutcome card wins frame memory map (commanded card (commandOf (card .link) (metBy card wins) index argument))
+pub data FrameOutcome (card : Card) (wins : Bool) (frame : List ℕ) (seen : Seen) : FrameJudged → Type 0 where
+  unheard : (n : ℕ) → among n (12 ∷ 1 ∷ 2 ∷ []) ≡ true → FrameOutcome card wins frame seen (frameRefused card (refusalOf n))
+  damaged : FrameOutcome card wins frame seen (frameRefused (withLink card (damagedLink (card .link))) (by 3))
+  commands : (index argument : ℕ) → frameOf frame ≡ Command index argument → lendingOf seen (card .registers .groups) ≡ Right
+      → FrameOutcome card wins frame seen (commanded card (commandOf (card .link) (metBy card wins) index argument))
 
 -- ---- a block in
-module _ (card : Card) (block : List ℕ) (memory : ℕ) (map : List ℕ) where
+module _ (card : Card) (block : List ℕ) (seen : Seen) where
   abbrev In : BlockJudged → Type 0
-  In = InOutcome card block memory map
+  In = InOutcome card block seen
 
   request-outcome : card .link .state ≡ Rcv LockRequest → (answer : Answer) → askedOf card block .answer ≡ answer
       → In (lockJudged card (askedOf card block .lock) answer)
@@ -126,26 +128,26 @@ module _ (card : Card) (block : List ℕ) (memory : ℕ) (map : List ℕ) where
   request-outcome on Erased e = forces on e
   request-outcome on Failed e = refuses LockRequest (by 20) (Bit (errorBit 24)) on failed
 
-  module _ (lent : lentRight memory map (card .registers .groups) ≡ true) where
+  module _ (lent : lendingOf seen (card .registers .groups) ≡ Right) where
     write-outcome : (incoming : Incoming) (at : ℕ) → WritesAt incoming at → card .link .state ≡ Rcv incoming → length block ≡ 514
-        → In (writeJudged card incoming (at / 512) map)
+        → In (writeJudged card incoming (at / 512) (seen .map))
     unfolding writeJudged
     write-outcome incoming at w on long =
         guarded In (ltb (at / 512) (sectors card))
         (λ t. refuses incoming (by 18) (Bit (errorBit 31)) on (past-end at w (ltb-false (at / 512) (sectors card) t)))
         (λ t.
-        guarded In (not (protectedIn map (csdProtects (card .registers .csd)) (at / 512)))
+        guarded In (not (protectedIn (seen .map) (csdProtects (card .registers .csd)) (at / 512)))
         (λ u. refuses incoming (by 19) (Bit (errorBit 26)) on protected)
         (λ u. stores incoming at w on (record { lent = lent; long = long; in-range = ltb-true (at / 512) (sectors card) t; free = not-true _ u })))
 
     carried-outcome : (incoming : Incoming) → card .link .state ≡ Rcv incoming → length block ≡ awaitedLength card incoming + beside
-        → In (carriedOut card incoming (payloadOf block) map)
+        → In (carriedOut card incoming (payloadOf block) (seen .map))
     unfolding requestJudged
     carried-outcome (One at) on long = write-outcome (One at) at (one at) on long
     carried-outcome (Many at) on long = write-outcome (Many at) at (many at) on long
     carried-outcome LockRequest on long = request-outcome on (askedOf card block .answer) refl
 
-    awaited-outcome : (incoming : Incoming) → card .link .state ≡ Rcv incoming → In (awaitedJudged card incoming block map)
+    awaited-outcome : (incoming : Incoming) → card .link .state ≡ Rcv incoming → In (awaitedJudged card incoming block (seen .map))
     unfolding awaitedJudged
     awaited-outcome incoming on =
         guarded In (eqb (length block) (awaitedLength card incoming + beside)) (λ t. refuses incoming (by 16) (Bit (errorBit 29)) on wrong-length)
@@ -153,7 +155,7 @@ module _ (card : Card) (block : List ℕ) (memory : ℕ) (map : List ℕ) where
         guarded In (eqb (toldCrc block) (crc16 (payloadOf block))) (λ u. refuses incoming (by 17) None on wrong-crc)
         (λ u. carried-outcome incoming on (eqb-true (length block) (awaitedLength card incoming + beside) t)))
 
-    in-state : (state : State) → card .link .state ≡ state → In (stateJudged card state block map)
+    in-state : (state : State) → card .link .state ≡ state → In (stateJudged card state block (seen .map))
     in-state Idle on = unreads 15 refl
     in-state Ready on = unreads 15 refl
     in-state Ident on = unreads 15 refl
@@ -165,10 +167,9 @@ module _ (card : Card) (block : List ℕ) (memory : ℕ) (map : List ℕ) where
     in-state Dis on = unreads 15 refl
     in-state Ina on = unreads 15 refl
 
-  pub block-outcome : InOutcome card block memory map (blockJudged card block memory map)
+  pub block-outcome : InOutcome card block seen (blockJudged card block seen)
   unfolding blockJudged
-  block-outcome =
-      guarded In (lentRight memory map (card .registers .groups)) (λ t. unreads 12 refl) (λ t. in-state t (card .link .state) refl)
+  block-outcome = once-lent seen (card .registers .groups) In (unread card) (unreads 12 refl) (λ t. in-state t (card .link .state) refl)
 
 -- ---- a block out
 module _ (card : Card) where
@@ -204,17 +205,16 @@ module _ (card : Card) where
   out-state Dis room on = unsends 15 refl
   out-state Ina room on = unsends 15 refl
 
-  pub out-outcome : (memory : ℕ) (map : List ℕ) (room : ℕ) → OutOutcome card (outJudged card memory map room)
+  pub out-outcome : (seen : Seen) (room : ℕ) → OutOutcome card (outJudged card seen room)
   unfolding outJudged
-  out-outcome memory map room =
-      guarded Out (lentRight memory map (card .registers .groups)) (λ t. unsends 12 refl) (λ t. out-state (card .link .state) room refl)
+  out-outcome seen room = once-lent seen (card .registers .groups) Out (unsent card) (unsends 12 refl) (λ t. out-state (card .link .state) room refl)
 
 -- ---- a frame
-module _ (card : Card) (wins : Bool) (frame : List ℕ) (memory : ℕ) (map : List ℕ) where
+module _ (card : Card) (wins : Bool) (frame : List ℕ) (seen : Seen) where
   abbrev Heard : FrameJudged → Type 0
-  Heard = FrameOutcome card wins frame memory map
+  Heard = FrameOutcome card wins frame seen
 
-  module _ (lent : lentRight memory map (card .registers .groups) ≡ true) where
+  module _ (lent : lendingOf seen (card .registers .groups) ≡ Right) where
     -- a framing, where it is the frame's
     abbrev Reads : Framing → Type 0
     Reads framing = frameOf frame ≡ checked framing → Heard (framed card wins framing)
@@ -237,9 +237,9 @@ module _ (card : Card) (wins : Bool) (frame : List ℕ) (memory : ℕ) (map : Li
     unfolding framingOf
     by-length = guarded Reads (eqb (length frame) 6) (λ t e. unheard 1 refl) (λ t. by-bits (bits frame))
 
-  pub frame-outcome : FrameOutcome card wins frame memory map (frameJudged card wins frame memory map)
+  pub frame-outcome : FrameOutcome card wins frame seen (frameJudged card wins frame seen)
   unfolding frameJudged frameOf
-  frame-outcome = guarded Heard (lentRight memory map (card .registers .groups)) (λ t. unheard 12 refl) (λ t. by-length t refl)
+  frame-outcome = once-lent seen (card .registers .groups) Heard (frameRefused card) (unheard 12 refl) (λ t. by-length t refl)
 
 pub told : (P : Stepped → Type 0) (stepped : Stepped) (spared : Bool) → P (sparedTold stepped true) → P stepped → P (sparedTold stepped spared)
 told P stepped true spares kept = spares

@@ -6,20 +6,45 @@
 --   done-refused    a call that is carried out told as refused
 --   done-sends      one that sends a register
 --   done-resets     one that leaves another record
+-- and of a command at a link:
+--   skip-untold     an erase that spared a sector, untold
+--   skip-always     bit 15 where none was spared
+--   skip-waits      what is sent is as `command` gives it, so that bit 15 waits for the next R1
+--   group-unset     CMD28 that leaves the map as it was
+--   set-fills       CMD28 that writes memory
 -- Assumes nothing.
-use mathlib.Core.Path.{_≡_}
-use lib.ListN.{replicate}
+use mathlib.Core.Path.{_≡_, refl, sym, ap}
+use mathlib.Core.Bool.{Bool, true, false}
+use mathlib.Core.List.{List, [], _∷_}
+use Prim.Native.Nat.{ℕ}
+use native.Mathlib.Omega.{arith}
+use lib.ListN.{getD, replicate}
 use Rattle.base.proofs.Cases.{clash}
 use Rattle.base.specs.Refusals.{by}
+use Rattle.command.specs.Answers.{responseOf, answered}
+use Rattle.command.specs.Command.{takenOf, commandOf}
+use Rattle.command.specs.Obey.{taggingOf, judgedOf, resetTold, awaitedBy, obeyed, changeOf, afterChecks, actedOf}
+use Rattle.command.specs.declared.Change.the-variants.{Protect}
+use Rattle.command.specs.declared.Met.{Met}
 use Rattle.command.specs.declared.Sent.the-variants.{Cid}
 use Rattle.lock.specs.Passwords.{noPassword}
+use Rattle.moves.specs.Moves.{moveOf}
+use Rattle.moves.specs.Rows.{transferRow, rowOf}
 use Rattle.card_record.specs.Power.{freshLink}
-use Rattle.card_record.specs.Record.{withState}
+use Rattle.card_record.specs.Record.{withState, withTags}
 use Rattle.card_record.specs.declared.Card.{Card}
+use Rattle.card_record.specs.declared.Link.{Link}
 use Rattle.card_record.specs.declared.Registers.{Registers}
 use Rattle.states.specs.declared.State.{State}
 use Rattle.states.specs.declared.State.the-variants.{Idle, Tran, Ina}
+use Rattle.store.specs.Erase.{sparedTo, anySpared}
+use Rattle.store.specs.Lent.{Seen, lentOf, seenOf}
+use Rattle.tags.specs.Tagging.{tagsOf}
+use Rattle.tags.specs.declared.Kind.the-variants.{Sectors}
+use Rattle.tags.specs.declared.Range.the-variants.{Full}
+use Rattle.card.specs.Frame.{changed, commandHeard}
 use Rattle.card.specs.Replies.{refused, done}
+use Rattle.card.specs.declared.Answered.{Answered}
 use Rattle.card.specs.declared.Outcome.the-variants.{Done, Refused}
 
 abbrev registers : Registers
@@ -47,3 +72,28 @@ done-sends e = clash cc
 done-resets : done (card Tran) .card .link .state ≡ Idle → ⊥
 unfolding freshLink
 done-resets e = clash cc
+
+-- CMD38 in tran, sector 1 tagged, under a map of one group
+abbrev erasing : List ℕ → Answered
+erasing map =
+    commandHeard (withTags (withState freshLink Tran) (tagsOf (Full Sectors 1 1)))
+    (record { ocr = 0x00FF8000; groups = 1; locked = false; wins = true }) false 38 0 (seenOf 8192 map)
+
+skip-untold : erasing (1 ∷ []) .link .errors .bits ≡ 0 → ⊥
+unfolding freshLink commandHeard commandOf rowOf transferRow moveOf takenOf actedOf judgedOf taggingOf afterChecks answered responseOf resetTold obeyed awaitedBy changeOf anySpared sparedTo
+skip-untold e = let z : _≡_ {A = ℕ} 0x8000 0 = e in omega arith
+
+skip-always : erasing (0 ∷ []) .link .errors .bits ≡ 0x8000 → ⊥
+unfolding freshLink commandHeard commandOf rowOf transferRow moveOf takenOf actedOf judgedOf taggingOf afterChecks answered responseOf resetTold obeyed awaitedBy changeOf anySpared sparedTo
+skip-always e = let z : _≡_ {A = ℕ} 0 0x8000 = e in omega arith
+
+skip-waits : (link : Link) (met : Met) (whole : Bool) (index argument : ℕ) (seen : Seen)
+    → commandHeard link met whole index argument seen .sent ≡ commandOf link met index argument .sent
+unfolding commandHeard
+skip-waits link met whole index argument seen = refl
+
+group-unset : changed (freshLink .tags) false (Protect 0 true) (lentOf [] (0 ∷ [])) .map ≡ 0 ∷ [] → ⊥
+group-unset e = clash (sym (ap (λ (l : List ℕ). getD l 0 0) e))
+
+set-fills : changed (freshLink .tags) false (Protect 0 true) (lentOf (1 ∷ []) (0 ∷ [])) .memory ≡ 0xFF ∷ [] → ⊥
+set-fills e = let z : _≡_ {A = ℕ} 1 0xFF = ap (λ (l : List ℕ). getD l 0 0) e in omega arith

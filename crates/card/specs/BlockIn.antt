@@ -1,10 +1,10 @@
 -- Document 01, "Reading, writing, erasing, locking": a block in. "Block in: 12, 15, 16, 17, 18, 19 or 20."
 -- Assumes nothing.
 use mathlib.Core.Bool.{not}
-use mathlib.Core.List.{List, _++_}
-use Prim.Native.Nat.{ℕ, _+_, _-_, _*_, _/_, min}
+use mathlib.Core.List.{List}
+use Prim.Native.Nat.{ℕ, _+_, _*_, _/_}
 use lib.Dec.{eqb, ltb}
-use lib.ListN.{length, take, replicate}
+use lib.ListN.{length}
 use Rattle.base.specs.Choice.{unless}
 use Rattle.base.specs.Refusals.{by}
 use Rattle.base.specs.Sizes.{sectorSize}
@@ -29,7 +29,8 @@ use Rattle.status.specs.Status.{withBit}
 use Rattle.status.specs.declared.Errors.{Errors}
 use Rattle.status.specs.declared.Fault.{Fault}
 use Rattle.status.specs.declared.Fault.the-variants.{None, Bit}
-use Rattle.store.specs.Map.{lentRight, protectedIn, mapCleared}
+use Rattle.store.specs.Lent.{Lent, Seen, withMemory, withMap, lendingOf, onceLent}
+use Rattle.store.specs.Map.{protectedIn, mapCleared}
 use Rattle.store.specs.Memory.{sectorWritten, allErased}
 use Rattle.wire.specs.Blocks.{payloadOf, crcIn}
 
@@ -125,35 +126,13 @@ stateJudged card Prg block map = unread card (by 15)
 stateJudged card Dis block map = unread card (by 15)
 stateJudged card Ina block map = unread card (by 15)
 
--- a block in, judged from the lengths of what is lent and the map
-unfoldable pub blockJudged : Card → List ℕ → ℕ → List ℕ → BlockJudged
-blockJudged card block memory map =
-    unless (lentRight memory map (card .registers .groups)) (unread card (by 12)) (stateJudged card (card .link .state) block map)
+-- a block in, judged: 12 before all else
+unfoldable pub blockJudged : Card → List ℕ → Seen → BlockJudged
+blockJudged card block seen =
+    onceLent (lendingOf seen (card .registers .groups)) (unread card) (stateJudged card (card .link .state) block (seen .map))
 
--- the bytes of a sector that judging gives beside its answer: the block's first, and zeros where it has fewer
-unfoldable pub keptOf : List ℕ → List ℕ
-keptOf block = take sectorSize block ++ replicate (sectorSize - length block) 0
-
--- how many bytes of a block are kept until they are stored: none where no sector is to be stored
-abbrev pub keptLength : Storing → ℕ → ℕ
-keptLength Nothing n = 0
-keptLength (Sector sector) n = min n sectorSize
-keptLength All n = 0
-
--- and the bytes that are kept
-abbrev pub keptFor : List ℕ → Storing → List ℕ
-keptFor block Nothing = replicate sectorSize 0
-keptFor block (Sector sector) = keptOf block
-keptFor block All = replicate sectorSize 0
-
--- the contents afterwards
-abbrev pub storedBy : List ℕ → List ℕ → Storing → List ℕ
-storedBy kept memory Nothing = memory
-storedBy kept memory (Sector sector) = sectorWritten memory sector kept
-storedBy kept memory All = allErased memory
-
--- the map afterwards
-abbrev pub clearedBy : List ℕ → Storing → List ℕ
-clearedBy map Nothing = map
-clearedBy map (Sector sector) = map
-clearedBy map All = mapCleared map
+-- what is lent afterwards: "A good block is stored"; "Forced erase .. fills memory, clears the map"
+abbrev pub storedBy : List ℕ → Storing → Lent → Lent
+storedBy block Nothing lent = lent
+storedBy block (Sector sector) lent = withMemory lent (sectorWritten (lent .memory) sector block)
+storedBy block All lent = withMap (withMemory lent (allErased (lent .memory))) (mapCleared (lent .map))

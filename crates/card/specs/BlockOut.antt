@@ -26,7 +26,8 @@ use Rattle.states.specs.declared.State.the-variants.{Idle, Ready, Ident, Stby, 
 use Rattle.status.specs.ErrorBits.{errorBit}
 use Rattle.status.specs.Status.{withBit}
 use Rattle.status.specs.declared.ErrorBit.{ErrorBit}
-use Rattle.store.specs.Map.{lentRight, protectionBits}
+use Rattle.store.specs.Lent.{Lent, Seen, lendingOf, onceLent}
+use Rattle.store.specs.Map.{protectionBits}
 use Rattle.store.specs.Memory.{contents, inside, partOf}
 use Rattle.wire.specs.Blocks.{blockOf, blockWritten}
 
@@ -81,10 +82,10 @@ stateSends card Prg room = unsent card (by 15)
 stateSends card Dis room = unsent card (by 15)
 stateSends card Ina room = unsent card (by 15)
 
--- a block out, judged from the lengths of what is lent and the map
-unfoldable pub outJudged : Card → ℕ → List ℕ → ℕ → OutJudged
-outJudged card memory map room =
-    unless (lentRight memory map (card .registers .groups)) (unsent card (by 12)) (stateSends card (card .link .state) room)
+-- a block out, judged: 12 before all else
+unfoldable pub outJudged : Card → Seen → ℕ → OutJudged
+outJudged card seen room =
+    onceLent (lendingOf seen (card .registers .groups)) (unsent card) (stateSends card (card .link .state) room)
 
 -- the output with a block of the contents at its front; as it was where the block does not fit, or does not lie in the contents
 unfoldable pub partSent : List ℕ → ℕ → ℕ → List ℕ → List ℕ
@@ -101,7 +102,7 @@ unfoldable pub protectionSent : List ℕ → ℕ → List ℕ → List ℕ
 protectionSent map group out = laid (blockWritten (protectionBytes map group) out) (blockOf (protectionBytes map group)) out
 
 -- the output afterwards
-abbrev pub sentOut : List ℕ → List ℕ → List ℕ → Sending → List ℕ
-sentOut memory map out Nothing = out
-sentOut memory map out (Part at n) = partSent memory at n out
-sentOut memory map out (Protection group) = protectionSent map group out
+abbrev pub sentOut : Lent → Sending → List ℕ → List ℕ
+sentOut lent Nothing out = out
+sentOut lent (Part at n) out = partSent (lent .memory) at n out
+sentOut lent (Protection group) out = protectionSent (lent .map) group out

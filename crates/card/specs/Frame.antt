@@ -7,22 +7,31 @@ use Rattle.base.specs.Choice.{unless}
 use Rattle.base.specs.Refusals.{by}
 use Rattle.base.specs.declared.Refusal.{Refusal}
 use Rattle.card.specs.Replies.{replied, refused}
-use Rattle.card.specs.declared.FrameJudged.{FrameJudged}
+use Rattle.card.specs.declared.Answered.{Answered}
 use Rattle.card.specs.declared.Outcome.the-variants.{Done}
 use Rattle.card.specs.declared.Stepped.{Stepped}
 use Rattle.command.specs.Command.{metBy, damagedLink, commandOf}
 use Rattle.command.specs.declared.Change.{Change}
 use Rattle.command.specs.declared.Change.the-variants.{Nothing, Protect, Erase}
 use Rattle.command.specs.declared.Commanded.{Commanded}
+use Rattle.command.specs.declared.Met.{Met}
 use Rattle.card_record.specs.Record.{csdProtects, withErrors, withLink}
 use Rattle.card_record.specs.declared.Card.{Card}
+use Rattle.card_record.specs.declared.Link.{Link}
 use Rattle.status.specs.ErrorBits.{errorBit}
 use Rattle.status.specs.Status.{withBit}
 use Rattle.store.specs.Erase.{erased, anySpared}
-use Rattle.store.specs.Map.{lentRight, groupSet}
+use Rattle.store.specs.Lent.{Lent, Seen, withMemory, withMap, lendingOf, onceLent}
+use Rattle.store.specs.Map.{groupSet}
+use Rattle.tags.specs.declared.Tags.{Tags}
 use Rattle.wire.specs.Frames.{framingOf}
 use Rattle.wire.specs.declared.Framing.{Framing}
 use Rattle.wire.specs.declared.Framing.the-variants.{Framed, Unframed}
+
+-- a frame judged: the answer, and what is to change in what is lent
+pub record FrameJudged : Type 0 where
+  pub stepped : Stepped
+  pub change : Change
 
 -- a frame refused: nothing changes in what is lent
 abbrev pub frameRefused : Card → Refusal → FrameJudged
@@ -40,36 +49,52 @@ framed card wins (Framed index argument right) =
     unless right (frameRefused (withLink card (damagedLink (card .link))) (by 3))
     (commanded card (commandOf (card .link) (metBy card wins) index argument))
 
--- a frame judged, from the lengths of what is lent and the map
-unfoldable pub frameJudged : Card → Bool → List ℕ → ℕ → List ℕ → FrameJudged
-frameJudged card wins frame memory map =
-    unless (lentRight memory map (card .registers .groups)) (frameRefused card (by 12)) (framed card wins (framingOf frame))
+-- a frame judged: 12 before all else
+unfoldable pub frameJudged : Card → Bool → List ℕ → Seen → FrameJudged
+frameJudged card wins frame seen =
+    onceLent (lendingOf seen (card .registers .groups)) (frameRefused card) (framed card wins (framingOf frame))
+
+-- whether a command spares a tagged sector, where these are the tags and the card is protected whole or is not
+abbrev pub sparing : Tags → Bool → Seen → Change → Bool
+sparing tags whole seen Nothing = false
+sparing tags whole seen (Protect group on) = false
+sparing tags whole seen Erase = anySpared (seen .map) tags whole (seen .bytes)
+
+-- the same at a card, with its own tags and its CSD
+abbrev pub spares : Card → Seen → Change → Bool
+spares card seen change = sparing (card .link .tags) (csdProtects (card .registers .csd)) seen change
 
 -- CMD38 "sets bit 15 if any was spared": it waits for the next R1
-abbrev pub spares : Card → ℕ → List ℕ → Change → Bool
-spares card memory map Nothing = false
-spares card memory map (Protect group on) = false
-spares card memory map Erase = anySpared map (card .link .tags) (csdProtects (card .registers .csd)) memory
+abbrev pub skipTold : Link → Bool → Link
+skipTold link true = withErrors link (withBit (link .errors) (errorBit 15))
+skipTold link false = link
 
 abbrev pub sparedTold : Stepped → Bool → Stepped
-sparedTold stepped true =
-    replied (withLink (stepped .card) (withErrors (stepped .card .link) (withBit (stepped .card .link .errors) (errorBit 15))))
-    (stepped .reply .outcome) (stepped .reply .sent)
+sparedTold stepped true = replied (withLink (stepped .card) (skipTold (stepped .card .link) true)) (stepped .reply .outcome) (stepped .reply .sent)
 sparedTold stepped false = stepped
 
--- a frame at a card of this record, lent a memory of so many bytes and this map
-unfoldable pub frameStepped : Card → Bool → List ℕ → ℕ → List ℕ → Stepped
-frameStepped card wins frame memory map =
-    sparedTold (frameJudged card wins frame memory map .stepped) (spares card memory map (frameJudged card wins frame memory map .change))
+-- what a judged frame answers: bit 15 where its command spared a sector
+abbrev pub frameTold : Card → Seen → FrameJudged → Stepped
+frameTold card seen judged = sparedTold (judged .stepped) (spares card seen (judged .change))
 
--- the contents afterwards: "fills every tagged sector outside protection"
-abbrev pub erasedBy : Card → List ℕ → List ℕ → Change → List ℕ
-erasedBy card memory map Nothing = memory
-erasedBy card memory map (Protect group on) = memory
-erasedBy card memory map Erase = erased map (card .link .tags) (csdProtects (card .registers .csd)) memory
+-- a frame at a card of this record
+unfoldable pub frameStepped : Card → Bool → List ℕ → Seen → Stepped
+frameStepped card wins frame seen = frameTold card seen (frameJudged card wins frame seen)
 
--- the map afterwards: "set, clear the addressed group"
-abbrev pub protectedBy : List ℕ → Change → List ℕ
-protectedBy map Nothing = map
-protectedBy map (Protect group on) = groupSet map group on
-protectedBy map Erase = map
+-- what is lent afterwards: "set, clear the addressed group"; "fills every tagged sector outside protection"
+abbrev pub changed : Tags → Bool → Change → Lent → Lent
+changed tags whole Nothing lent = lent
+changed tags whole (Protect group on) lent = withMap lent (groupSet (lent .map) group on)
+changed tags whole Erase lent = withMemory lent (erased (lent .map) tags whole (lent .memory))
+
+-- the same at a card, with its own tags and its CSD
+abbrev pub changedBy : Card → Change → Lent → Lent
+changedBy card change lent = changed (card .link .tags) (csdProtects (card .registers .csd)) change lent
+
+-- a command as a card's link takes it: the link that it leaves, with bit 15 where it spared a sector, and what is sent
+unfoldable pub commandHeard : Link → Met → Bool → ℕ → ℕ → Seen → Answered
+commandHeard link met whole index argument seen =
+    record {
+      link = skipTold (commandOf link met index argument .link) (sparing (link .tags) whole seen (commandOf link met index argument .change));
+      sent = commandOf link met index argument .sent;
+    }

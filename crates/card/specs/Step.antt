@@ -1,47 +1,40 @@
--- Everything that can happen to a made card, as one definition: a frame, a block in, a block out, work done, power-on. The next record, the
--- answer and the next map know of the memory only its length.
+-- Everything that can happen to a made card, as one definition: a frame, a block in, a block out, work done, power-on. The next record and
+-- the answer know of what is lent only what judging may see.
 -- Assumes nothing.
 use mathlib.Core.List.{List}
 use Prim.Native.Nat.{ℕ}
 use lib.ListN.{length}
-use Rattle.card.specs.BlockIn.{blockJudged, keptOf, storedBy, clearedBy}
+use Rattle.card.specs.BlockIn.{blockJudged, storedBy}
 use Rattle.card.specs.BlockOut.{outJudged, sentOut}
-use Rattle.card.specs.Frame.{frameJudged, frameStepped, erasedBy, protectedBy}
+use Rattle.card.specs.Frame.{frameJudged, frameStepped, changedBy}
 use Rattle.card.specs.Replies.{done}
 use Rattle.card.specs.declared.Call.{Call}
 use Rattle.card.specs.declared.Call.the-variants.{Frame, BlockIn, BlockOut, WorkDone, PowerOn}
 use Rattle.card.specs.declared.Stepped.{Stepped}
 use Rattle.card_record.specs.Power.{poweredOn, worked}
 use Rattle.card_record.specs.declared.Card.{Card}
+use Rattle.store.specs.Lent.{Lent, Seen, seen}
 
--- card, call, input, bytes of memory, map, bytes of output: the next record and the answer. "Work done .. is never refused"
-abbrev pub stepOf : Card → Call → List ℕ → ℕ → List ℕ → ℕ → Stepped
-stepOf card (Frame wins) input memory map room = frameStepped card wins input memory map
-stepOf card BlockIn input memory map room = blockJudged card input memory map .stepped
-stepOf card BlockOut input memory map room = outJudged card memory map room .stepped
-stepOf card WorkDone input memory map room = done (worked card)
-stepOf card PowerOn input memory map room = done (poweredOn card)
+-- the next record and the answer, for an output of so many bytes. "Work done .. is never refused"
+abbrev pub stepOf : Card → Call → List ℕ → Seen → ℕ → Stepped
+stepOf card (Frame wins) input seen room = frameStepped card wins input seen
+stepOf card BlockIn input seen room = blockJudged card input seen .stepped
+stepOf card BlockOut input seen room = outJudged card seen room .stepped
+stepOf card WorkDone input seen room = done (worked card)
+stepOf card PowerOn input seen room = done (poweredOn card)
 
--- the memory afterwards
-abbrev pub memoryOf : Card → Call → List ℕ → List ℕ → List ℕ → List ℕ
-memoryOf card (Frame wins) input memory map = erasedBy card memory map (frameJudged card wins input (length memory) map .change)
-memoryOf card BlockIn input memory map = storedBy (keptOf input) memory (blockJudged card input (length memory) map .storing)
-memoryOf card BlockOut input memory map = memory
-memoryOf card WorkDone input memory map = memory
-memoryOf card PowerOn input memory map = memory
-
--- the map afterwards
-abbrev pub mapOf : Card → Call → List ℕ → ℕ → List ℕ → List ℕ
-mapOf card (Frame wins) input memory map = protectedBy map (frameJudged card wins input memory map .change)
-mapOf card BlockIn input memory map = clearedBy map (blockJudged card input memory map .storing)
-mapOf card BlockOut input memory map = map
-mapOf card WorkDone input memory map = map
-mapOf card PowerOn input memory map = map
+-- what is lent afterwards
+abbrev pub lentAfter : Card → Call → List ℕ → Lent → Lent
+lentAfter card (Frame wins) input lent = changedBy card (frameJudged card wins input (seen lent) .change) lent
+lentAfter card BlockIn input lent = storedBy input (blockJudged card input (seen lent) .storing) lent
+lentAfter card BlockOut input lent = lent
+lentAfter card WorkDone input lent = lent
+lentAfter card PowerOn input lent = lent
 
 -- the output afterwards
-abbrev pub outputOf : Card → Call → List ℕ → List ℕ → List ℕ → List ℕ
-outputOf card (Frame wins) memory map out = out
-outputOf card BlockIn memory map out = out
-outputOf card BlockOut memory map out = sentOut memory map out (outJudged card (length memory) map (length out) .sending)
-outputOf card WorkDone memory map out = out
-outputOf card PowerOn memory map out = out
+abbrev pub outputOf : Card → Call → Lent → List ℕ → List ℕ
+outputOf card (Frame wins) lent out = out
+outputOf card BlockIn lent out = out
+outputOf card BlockOut lent out = sentOut lent (outJudged card (seen lent) (length out) .sending) out
+outputOf card WorkDone lent out = out
+outputOf card PowerOn lent out = out

@@ -1,5 +1,5 @@
-// A block in: 12, 15, 16, 17, 18, 19 or 20. The payload of a write goes to storing as an array of
-// 512 bytes.
+// A block in: 12, 15, 16, 17, 18, 19 or 20. A write's block is kept as an array of 512 bytes where it
+// is stored, and nowhere else.
 use crate::BlockJudged;
 use crate::Stepped;
 use crate::Storing;
@@ -7,6 +7,7 @@ use crate::replies::done;
 use crate::replies::refuse;
 use base::Refusal;
 use base::SECTOR;
+use base::copy;
 use card_record::Card;
 use card_record::Link;
 use lock::Answer;
@@ -15,11 +16,13 @@ use states::State;
 use status::ErrorBit;
 use status::Errors;
 use status::Fault;
+use store::Lending;
 use wire::Checked;
 ghost use mathlib.Core.Path.{_≡_};
-ghost use Prim.Native.Nat.{min};
-ghost use lib.ListN.{length};
-ghost use Rattle.card.specs.BlockIn.{awaitedLength, afterRefused, afterStored, withFault, blockRefused, blockGood, writeJudged, requestJudged, carriedOut, awaitedJudged, unread, stateJudged, blockJudged, keptOf, keptLength, keptFor, storedBy, clearedBy};
+ghost use Prim.Native.Nat.{_≤_};
+ghost use lib.ListN.{length, take};
+ghost use Rattle.card.specs.BlockIn.{awaitedLength, afterRefused, afterStored, withFault, blockRefused, blockGood, writeJudged, requestJudged, carriedOut, awaitedJudged, unread, stateJudged, blockJudged, storedBy};
+ghost use Rattle.store.specs.Lent.{lentOf, seen};
 
 // The bytes of a sector, as a length.
 const SECTOR_LENGTH: usize = SECTOR as usize;
@@ -33,6 +36,16 @@ fn awaited_length(card: Card, incoming: Incoming) -> usize
         Incoming::Many(_) => SECTOR_LENGTH,
         Incoming::LockRequest => card_record::read_length(card.link.length) as usize,
     }
+}
+
+// The block of a write, kept until it is stored.
+fn kept(block: &[u8]) -> [u8; 512]
+    requires { ⌜ 512 ≤ length (now block) ⌝ }
+    ensures { λ r. ⌜ r ≡ take 512 (now (block .entry)) ⌝ }
+{
+    let mut bytes = [0; 512];
+    copy(&block[0..SECTOR_LENGTH], &mut bytes, 0);
+    bytes
 }
 
 fn after_refused(incoming: Incoming) -> State
@@ -212,61 +225,18 @@ fn state_judged(card: Card, state: State, block: &[u8], map: &[u8]) -> BlockJudg
     }
 }
 
-// A block in judged: memory's contents are no argument, its length is. 12.
-fn judge(card: Card, block: &[u8], memory: usize, map: &[u8]) -> BlockJudged
-    ensures { λ r. ⌜ r ≡ blockJudged card (now (block .entry)) memory (now (map .entry)) ⌝ }
-{
-    if !store::lent_right(memory, map, card.registers.groups as usize) {
-        return unread(card, Refusal::Lent);
-    }
-    let link = card.link;
-    let state = link.state;
-    state_judged(card, state, block, map)
-}
-
-// How many bytes of a block a sector takes.
-fn sector_part(length: usize) -> usize
-    ensures { λ r. ⌜ r ≡ min length 512 ⌝ }
-{
-    if length < SECTOR_LENGTH {
-        return length;
-    }
-    SECTOR_LENGTH
-}
-
-// How many bytes of a block are kept until they are stored: none where no sector is to be stored.
-fn kept_length(storing: Storing, length: usize) -> usize
-    ensures { λ r. ⌜ r ≡ keptLength storing length ⌝ }
-{
-    match storing {
-        Storing::Nothing => 0,
-        Storing::Sector(_) => sector_part(length),
-        Storing::All => 0,
-    }
-}
-
-// The bytes that a write keeps until they are stored.
-fn kept(storing: Storing, block: &[u8]) -> [u8; 512]
-    ensures { λ r. ⌜ r ≡ keptFor (now (block .entry)) storing ⌝ }
-{
-    let mut bytes = [0; 512];
-    let n = kept_length(storing, block.len());
-    let mut i: usize = 0;
-    while i < n {
-        bytes[i] = block[i];
-        i += 1;
-    }
-    bytes
-}
-
 // What was judged carried out on the memory and the map.
-fn store(storing: Storing, bytes: [u8; 512], memory: &mut [u8], map: &mut [u8])
-    ensures memory { λ _. ⌜ now (memory .exit) ≡ storedBy bytes (now (memory .entry)) storing ⌝ }
-    ensures map { λ _. ⌜ now (map .exit) ≡ clearedBy (now (map .entry)) storing ⌝ }
+fn store(storing: Storing, block: &[u8], memory: &mut [u8], map: &mut [u8])
+    ensures { λ _. ⌜ lentOf (now (memory .exit)) (now (map .exit)) ≡ storedBy (now (block .entry)) storing (lentOf (now (memory .entry)) (now (map .entry))) ⌝ }
 {
     match storing {
         Storing::Nothing => {}
-        Storing::Sector(sector) => store::write_sector(memory, sector, &bytes),
+        Storing::Sector(sector) => {
+            if SECTOR_LENGTH <= block.len() {
+                let bytes = kept(block);
+                store::write_sector(memory, sector, &bytes);
+            }
+        }
         Storing::All => {
             store::fill_all(memory);
             store::clear_map(map);
@@ -274,14 +244,28 @@ fn store(storing: Storing, bytes: [u8; 512], memory: &mut [u8], map: &mut [u8])
     }
 }
 
-// A block in: judged, and then stored.
-pub fn block_in(card: Card, block: &[u8], memory: &mut [u8], map: &mut [u8]) -> Stepped
-    ensures answer { λ r. ⌜ r ≡ blockJudged card (now (block .entry)) (length (now (memory .entry))) (now (map .entry)) .stepped ⌝ }
-    ensures memory { λ _. ⌜ now (memory .exit) ≡ storedBy (keptOf (now (block .entry))) (now (memory .entry)) (blockJudged card (now (block .entry)) (length (now (memory .entry))) (now (map .entry)) .storing) ⌝ }
-    ensures map { λ _. ⌜ now (map .exit) ≡ clearedBy (now (map .entry)) (blockJudged card (now (block .entry)) (length (now (memory .entry))) (now (map .entry)) .storing) ⌝ }
+// A block in at a card that is lent what is its own: judged, and then stored. Memory's contents are
+// not looked at.
+pub fn taken_in(card: Card, block: &[u8], memory: &mut [u8], map: &mut [u8]) -> Stepped
+    ensures answer { λ r. ⌜ r ≡ stateJudged card (card .link .state) (now (block .entry)) (now (map .entry)) .stepped ⌝ }
+    ensures lent { λ _. ⌜ lentOf (now (memory .exit)) (now (map .exit)) ≡ storedBy (now (block .entry)) (stateJudged card (card .link .state) (now (block .entry)) (now (map .entry)) .storing) (lentOf (now (memory .entry)) (now (map .entry))) ⌝ }
 {
-    let judged = judge(card, block, memory.len(), map);
+    let link = card.link;
+    let state = link.state;
+    let judged = state_judged(card, state, block, map);
     let storing = judged.storing;
-    store(storing, kept(storing, block), memory, map);
+    store(storing, block, memory, map);
     judged.stepped
+}
+
+// A block in: 12 before all else.
+pub fn block_in(card: Card, block: &[u8], memory: &mut [u8], map: &mut [u8]) -> Stepped
+    ensures answer { λ r. ⌜ r ≡ blockJudged card (now (block .entry)) (seen (lentOf (now (memory .entry)) (now (map .entry)))) .stepped ⌝ }
+    ensures lent { λ _. ⌜ lentOf (now (memory .exit)) (now (map .exit)) ≡ storedBy (now (block .entry)) (blockJudged card (now (block .entry)) (seen (lentOf (now (memory .entry)) (now (map .entry)))) .storing) (lentOf (now (memory .entry)) (now (map .entry))) ⌝ }
+{
+    let lending = store::lent_check(memory.len(), map, card.registers.groups as usize);
+    match lending {
+        Lending::Right => taken_in(card, block, memory, map),
+        Lending::Refused(refusal) => refuse(card, refusal),
+    }
 }

@@ -12,9 +12,11 @@ use command::Sent;
 use states::Outgoing;
 use states::State;
 use status::ErrorBit;
+use store::Lending;
 ghost use mathlib.Core.Path.{_≡_};
 ghost use lib.ListN.{length};
 ghost use Rattle.card.specs.BlockOut.{unsent, outRefused, outGood, afterSent, partJudged, protectionJudged, outgoingJudged, stateSends, outJudged, partSent, protectionSent, sentOut};
+ghost use Rattle.store.specs.Lent.{lentOf, seen};
 
 fn unsent(card: Card, refusal: Refusal) -> OutJudged
     ensures { λ r. ⌜ r ≡ unsent card refusal ⌝ }
@@ -133,18 +135,6 @@ fn state_sends(card: Card, state: State, room: usize) -> OutJudged
     }
 }
 
-// A block out judged: memory's contents are no argument, its length is. 12.
-fn judge(card: Card, memory: usize, map: &[u8], room: usize) -> OutJudged
-    ensures { λ r. ⌜ r ≡ outJudged card memory (now (map .entry)) room ⌝ }
-{
-    if !store::lent_right(memory, map, card.registers.groups as usize) {
-        return unsent(card, Refusal::Lent);
-    }
-    let link = card.link;
-    let state = link.state;
-    state_sends(card, state, room)
-}
-
 // A block of memory at the front of the output, where it lies in memory and fits. It is moved in one
 // go and summed where it then stands: that costs less than copying and summing byte by byte.
 fn send_part(memory: &[u8], at: usize, n: usize, out: &mut [u8])
@@ -181,7 +171,7 @@ fn send_protection(map: &[u8], group: u32, out: &mut [u8])
 
 // What was judged, at the front of the output.
 fn send(sending: Sending, memory: &[u8], map: &[u8], out: &mut [u8])
-    ensures { λ _. ⌜ now (out .exit) ≡ sentOut (now (memory .entry)) (now (map .entry)) (now (out .entry)) sending ⌝ }
+    ensures { λ _. ⌜ now (out .exit) ≡ sentOut (lentOf (now (memory .entry)) (now (map .entry))) sending (now (out .entry)) ⌝ }
 {
     match sending {
         Sending::Nothing => {}
@@ -190,13 +180,27 @@ fn send(sending: Sending, memory: &[u8], map: &[u8], out: &mut [u8])
     }
 }
 
-// A block out: judged, and then sent.
-pub fn block_out(card: Card, memory: &[u8], map: &[u8], out: &mut [u8]) -> Stepped
-    ensures answer { λ r. ⌜ r ≡ outJudged card (length (now (memory .entry))) (now (map .entry)) (length (now (out .entry))) .stepped ⌝ }
-    ensures output { λ _. ⌜ now (out .exit) ≡ sentOut (now (memory .entry)) (now (map .entry)) (now (out .entry)) (outJudged card (length (now (memory .entry))) (now (map .entry)) (length (now (out .entry))) .sending) ⌝ }
+// A block out at a card that is lent what is its own: judged, and then sent.
+pub fn given_out(card: Card, memory: &[u8], map: &[u8], out: &mut [u8]) -> Stepped
+    ensures answer { λ r. ⌜ r ≡ stateSends card (card .link .state) (length (now (out .entry))) .stepped ⌝ }
+    ensures output { λ _. ⌜ now (out .exit) ≡ sentOut (lentOf (now (memory .entry)) (now (map .entry))) (stateSends card (card .link .state) (length (now (out .entry))) .sending) (now (out .entry)) ⌝ }
 {
-    let judged = judge(card, memory.len(), map, out.len());
+    let link = card.link;
+    let state = link.state;
+    let judged = state_sends(card, state, out.len());
     let sending = judged.sending;
     send(sending, memory, map, out);
     judged.stepped
+}
+
+// A block out: 12 before all else.
+pub fn block_out(card: Card, memory: &[u8], map: &[u8], out: &mut [u8]) -> Stepped
+    ensures answer { λ r. ⌜ r ≡ outJudged card (seen (lentOf (now (memory .entry)) (now (map .entry)))) (length (now (out .entry))) .stepped ⌝ }
+    ensures output { λ _. ⌜ now (out .exit) ≡ sentOut (lentOf (now (memory .entry)) (now (map .entry))) (outJudged card (seen (lentOf (now (memory .entry)) (now (map .entry)))) (length (now (out .entry))) .sending) (now (out .entry)) ⌝ }
+{
+    let lending = store::lent_check(memory.len(), map, card.registers.groups as usize);
+    match lending {
+        Lending::Right => given_out(card, memory, map, out),
+        Lending::Refused(refusal) => refuse(card, refusal),
+    }
 }

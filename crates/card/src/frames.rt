@@ -1,5 +1,5 @@
 // A frame at a card: 12, 1, 2, 3, and then the command.
-use crate::FrameJudged;
+use crate::Answered;
 use crate::Outcome;
 use crate::Reply;
 use crate::Stepped;
@@ -10,48 +10,13 @@ use card_record::Link;
 use command::Change;
 use command::Met;
 use status::ErrorBit;
+use store::Lending;
 use wire::Framing;
 ghost use mathlib.Core.Path.{_≡_};
-ghost use lib.ListN.{length};
-ghost use Rattle.card.specs.Frame.{frameRefused, commanded, frameJudged, sparedTold, frameStepped, erasedBy, protectedBy};
+ghost use Rattle.card.specs.Frame.{framed, commanded, frameJudged, skipTold, frameTold, frameStepped, changed, changedBy, commandHeard};
 ghost use Rattle.command.specs.Command.{metBy, damagedLink, commandOf};
 ghost use Rattle.card_record.specs.Record.{withLink};
-
-fn unheard(card: Card, refusal: Refusal) -> FrameJudged
-    ensures { λ r. ⌜ r ≡ frameRefused card refusal ⌝ }
-{
-    FrameJudged {
-        stepped: refuse(card, refusal),
-        change: Change::Nothing,
-    }
-}
-
-// A command at a card that would win the line in CMD2, or would not.
-fn heard(card: Card, wins: bool, index: u8, argument: u32) -> FrameJudged
-    ensures { λ r. ⌜ r ≡ commanded card (commandOf (card .link) (metBy card wins) index argument) ⌝ }
-{
-    let met = Met {
-        ocr: card.registers.ocr,
-        groups: card.registers.groups,
-        locked: card.lock.locked,
-        wins,
-    };
-    let link = card.link;
-    let given = command::command(link, met, index, argument);
-    let next = given.link;
-    let sent = given.sent;
-    let change = given.change;
-    FrameJudged {
-        stepped: Stepped {
-            card: Card { link: next, ..card },
-            reply: Reply {
-                outcome: Outcome::Done,
-                sent,
-            },
-        },
-        change,
-    }
-}
+ghost use Rattle.store.specs.Lent.{lentOf, seen};
 
 fn damaged(card: Card) -> Card
     ensures { λ r. ⌜ r ≡ withLink card (damagedLink (card .link)) ⌝ }
@@ -63,14 +28,93 @@ fn damaged(card: Card) -> Card
     }
 }
 
-// A frame judged: memory's contents are no argument, its length is.
-fn judge(card: Card, wins: bool, frame: &[u8], memory: usize, map: &[u8]) -> FrameJudged
-    ensures { λ r. ⌜ r ≡ frameJudged card wins (now (frame .entry)) memory (now (map .entry)) ⌝ }
+// Bit 15, which waits for the next R1, where an erase spared a sector.
+fn tell_spared(link: Link, spared: bool) -> Link
+    ensures { λ r. ⌜ r ≡ skipTold link spared ⌝ }
 {
-    if !store::lent_right(memory, map, card.registers.groups as usize) {
-        return unheard(card, Refusal::Lent);
+    if !spared {
+        return link;
     }
-    let framing = wire::unframe(frame);
+    Link {
+        errors: status::set(link.errors, ErrorBit::WpEraseSkip),
+        ..link
+    }
+}
+
+// A command at a card's link: what it changes in what is lent is changed. `whole` says whether the CSD
+// protects the whole card.
+pub fn heard(
+    link: Link,
+    met: Met,
+    whole: bool,
+    index: u8,
+    argument: u32,
+    memory: &mut [u8],
+    map: &mut [u8],
+) -> Answered
+    ensures answer { λ r. ⌜ r ≡ commandHeard link met whole index argument (seen (lentOf (now (memory .entry)) (now (map .entry)))) ⌝ }
+    ensures lent { λ _. ⌜ lentOf (now (memory .exit)) (now (map .exit)) ≡ changed (link .tags) whole (commandOf link met index argument .change) (lentOf (now (memory .entry)) (now (map .entry))) ⌝ }
+{
+    let given = command::command(link, met, index, argument);
+    let next = given.link;
+    let sent = given.sent;
+    let change = given.change;
+    match change {
+        Change::Nothing => Answered { link: next, sent },
+        Change::Protect { group, on } => {
+            store::protect(map, group, on);
+            Answered { link: next, sent }
+        }
+        Change::Erase => {
+            let tags = link.tags;
+            let spared = store::erase(memory, map, tags, whole);
+            Answered {
+                link: tell_spared(next, spared),
+                sent,
+            }
+        }
+    }
+}
+
+// A command at a card that would win the line in CMD2, or would not.
+fn commanded(
+    card: Card,
+    wins: bool,
+    index: u8,
+    argument: u32,
+    memory: &mut [u8],
+    map: &mut [u8],
+) -> Stepped
+    ensures answer { λ r. ⌜ r ≡ frameTold card (seen (lentOf (now (memory .entry)) (now (map .entry)))) (commanded card (commandOf (card .link) (metBy card wins) index argument)) ⌝ }
+    ensures lent { λ _. ⌜ lentOf (now (memory .exit)) (now (map .exit)) ≡ changedBy card (commandOf (card .link) (metBy card wins) index argument .change) (lentOf (now (memory .entry)) (now (map .entry))) ⌝ }
+{
+    let registers = card.registers;
+    let csd = registers.csd;
+    let whole = card_record::csd_protects(csd);
+    let met = Met {
+        ocr: registers.ocr,
+        groups: registers.groups,
+        locked: card.lock.locked,
+        wins,
+    };
+    let link = card.link;
+    let given = heard(link, met, whole, index, argument, memory, map);
+    let next = given.link;
+    let sent = given.sent;
+    Stepped {
+        card: Card { link: next, ..card },
+        reply: Reply {
+            outcome: Outcome::Done,
+            sent,
+        },
+    }
+}
+
+// A frame as `unframe` reads it, at a card that is lent what is its own: 1, 2, 3.
+fn framed(card: Card, wins: bool, framing: Framing, memory: &mut [u8], map: &mut [u8]) -> Stepped
+    ensures answer { λ r. ⌜ r ≡ frameTold card (seen (lentOf (now (memory .entry)) (now (map .entry)))) (framed card wins framing) ⌝ }
+    ensures lent { λ _. ⌜ lentOf (now (memory .exit)) (now (map .exit)) ≡ changedBy card (framed card wins framing .change) (lentOf (now (memory .entry)) (now (map .entry))) ⌝ }
+{
     match framing {
         Framing::Framed {
             index,
@@ -78,61 +122,27 @@ fn judge(card: Card, wins: bool, frame: &[u8], memory: usize, map: &[u8]) -> Fra
             crc_right,
         } => {
             if crc_right {
-                heard(card, wins, index, argument)
+                commanded(card, wins, index, argument, memory, map)
             } else {
-                unheard(damaged(card), Refusal::FrameCrc)
+                refuse(damaged(card), Refusal::FrameCrc)
             }
         }
-        Framing::Unframed(refusal) => unheard(card, refusal),
-    }
-}
-
-// Bit 15, which waits for the next R1, where an erase spared a sector.
-fn tell_spared(stepped: Stepped, spared: bool) -> Stepped
-    ensures { λ r. ⌜ r ≡ sparedTold stepped spared ⌝ }
-{
-    if !spared {
-        return stepped;
-    }
-    let card = stepped.card;
-    let reply = stepped.reply;
-    let link = card.link;
-    Stepped {
-        card: Card {
-            link: Link {
-                errors: status::set(link.errors, ErrorBit::WpEraseSkip),
-                ..link
-            },
-            ..card
-        },
-        reply,
+        Framing::Unframed(refusal) => refuse(card, refusal),
     }
 }
 
 // A frame at a card: judged, and then carried out on what is lent. A card that is alone on its line wins
 // CMD2; one that shares it is told whether its CID was heard to the last bit.
 pub fn frame(card: Card, wins: bool, frame: &[u8], memory: &mut [u8], map: &mut [u8]) -> Stepped
-    ensures answer { λ r. ⌜ r ≡ frameStepped card wins (now (frame .entry)) (length (now (memory .entry))) (now (map .entry)) ⌝ }
-    ensures memory { λ _. ⌜ now (memory .exit) ≡ erasedBy card (now (memory .entry)) (now (map .entry)) (frameJudged card wins (now (frame .entry)) (length (now (memory .entry))) (now (map .entry)) .change) ⌝ }
-    ensures map { λ _. ⌜ now (map .exit) ≡ protectedBy (now (map .entry)) (frameJudged card wins (now (frame .entry)) (length (now (memory .entry))) (now (map .entry)) .change) ⌝ }
+    ensures answer { λ r. ⌜ r ≡ frameStepped card wins (now (frame .entry)) (seen (lentOf (now (memory .entry)) (now (map .entry)))) ⌝ }
+    ensures lent { λ _. ⌜ lentOf (now (memory .exit)) (now (map .exit)) ≡ changedBy card (frameJudged card wins (now (frame .entry)) (seen (lentOf (now (memory .entry)) (now (map .entry)))) .change) (lentOf (now (memory .entry)) (now (map .entry))) ⌝ }
 {
-    let judged = judge(card, wins, frame, memory.len(), map);
-    let stepped = judged.stepped;
-    let change = judged.change;
-    match change {
-        Change::Nothing => stepped,
-        Change::Protect { group, on } => {
-            store::protect(map, group, on);
-            stepped
+    let lending = store::lent_check(memory.len(), map, card.registers.groups as usize);
+    match lending {
+        Lending::Right => {
+            let framing = wire::unframe(frame);
+            framed(card, wins, framing, memory, map)
         }
-        Change::Erase => {
-            let registers = card.registers;
-            let csd = registers.csd;
-            let whole = card_record::csd_protects(csd);
-            let link = card.link;
-            let tags = link.tags;
-            let spared = store::erase(memory, map, tags, whole);
-            tell_spared(stepped, spared)
-        }
+        Lending::Refused(refusal) => refuse(card, refusal),
     }
 }

@@ -3,8 +3,9 @@
 // of them. Each judges by value, from the record, the input, the map and the lengths of the rest,
 // and then changes what is lent. No call has a `requires`.
 //
-// Offers: `Outcome`, `Reply`, `Stepped`; `frame`, `block_in`, `block_out`; `Call`, `step`. The other
-// types are what judging gives: the definitions name them.
+// Offers: `Outcome`, `Reply`, `Stepped`; `frame`, `block_in`, `block_out`; `Answered`, `heard`, `taken_in`
+// and `given_out`, what these three do once what is lent was found right, and a frame read; `Call`,
+// `step`. The other types are what judging gives: the definitions name them.
 mod blocks_in;
 mod blocks_out;
 mod frames;
@@ -12,15 +13,19 @@ mod replies;
 
 use base::Refusal;
 pub use blocks_in::block_in;
+pub use blocks_in::taken_in;
 pub use blocks_out::block_out;
+pub use blocks_out::given_out;
 use card_record::Card;
-use command::Change;
+use card_record::Link;
 use command::Sent;
 pub use frames::frame;
+pub use frames::heard;
 use replies::done;
 ghost use mathlib.Core.Path.{_≡_};
 ghost use lib.ListN.{length};
-ghost use Rattle.card.specs.Step.{stepOf, memoryOf, mapOf, outputOf};
+ghost use Rattle.card.specs.Step.{stepOf, lentAfter, outputOf};
+ghost use Rattle.store.specs.Lent.{lentOf, seen};
 
 // What became of a call: it was carried out; it wrote so many bytes at the front of the output; the
 // refusal.
@@ -68,10 +73,10 @@ pub struct OutJudged {
     pub sending: Sending,
 }
 
-// A frame judged: the answer, and what is to change in what is lent.
-pub struct FrameJudged {
-    pub stepped: Stepped,
-    pub change: Change,
+// What a command leaves at a card: the link, and what is sent.
+pub struct Answered {
+    pub link: Link,
+    pub sent: Sent,
 }
 
 // Everything that can happen to a made card. A frame comes with whether the card wins the line in CMD2: one
@@ -93,10 +98,9 @@ pub fn step(
     map: &mut [u8],
     out: &mut [u8],
 ) -> Stepped
-    ensures answer { λ r. ⌜ r ≡ stepOf card call (now (input .entry)) (length (now (memory .entry))) (now (map .entry)) (length (now (out .entry))) ⌝ }
-    ensures memory { λ _. ⌜ now (memory .exit) ≡ memoryOf card call (now (input .entry)) (now (memory .entry)) (now (map .entry)) ⌝ }
-    ensures map { λ _. ⌜ now (map .exit) ≡ mapOf card call (now (input .entry)) (length (now (memory .entry))) (now (map .entry)) ⌝ }
-    ensures output { λ _. ⌜ now (out .exit) ≡ outputOf card call (now (memory .entry)) (now (map .entry)) (now (out .entry)) ⌝ }
+    ensures answer { λ r. ⌜ r ≡ stepOf card call (now (input .entry)) (seen (lentOf (now (memory .entry)) (now (map .entry)))) (length (now (out .entry))) ⌝ }
+    ensures lent { λ _. ⌜ lentOf (now (memory .exit)) (now (map .exit)) ≡ lentAfter card call (now (input .entry)) (lentOf (now (memory .entry)) (now (map .entry))) ⌝ }
+    ensures output { λ _. ⌜ now (out .exit) ≡ outputOf card call (lentOf (now (memory .entry)) (now (map .entry))) (now (out .entry)) ⌝ }
 {
     match call {
         Call::Frame { wins } => frame(card, wins, input, memory, map),

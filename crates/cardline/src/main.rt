@@ -33,15 +33,15 @@ fn run(buffer: &mut [u8], memory: &mut [u8], map: &mut [u8], out: &mut [u8]) {
     let mut turns = u64::MAX;
     while turns > 0 {
         before = turn(before, buffer, memory, map, out);
-        if is_over(before) {
+        let then = before.then;
+        if is_over(then) {
             return;
         }
         turns -= 1;
     }
 }
 
-fn is_over(before: Turned) -> bool {
-    let then = before.then;
+fn is_over(then: Then) -> bool {
     match then {
         Then::Goes => false,
         Then::Stops => true,
@@ -64,7 +64,8 @@ fn turn(
     map: &mut [u8],
     out: &mut [u8],
 ) -> Turned {
-    let Got::Bytes(to) = at_hand(before, buffer, out) else {
+    let then = before.then;
+    let Got::Bytes(to) = at_hand(then, before.to, buffer, out) else {
         return stopped(before);
     };
     hand_over(before, to, buffer, memory, map, out)
@@ -89,20 +90,19 @@ fn hand_over(
 
 // How many bytes are to be played: none more where the script has stopped or the input has ended, of
 // which what is left over is said.
-fn at_hand(before: Turned, buffer: &mut [u8], out: &mut [u8]) -> Got {
-    let then = before.then;
+fn at_hand(then: Then, to: usize, buffer: &mut [u8], out: &mut [u8]) -> Got {
     match then {
-        Then::Goes => Got::Bytes(before.to),
+        Then::Goes => Got::Bytes(to),
         Then::Stops => Got::End,
         Then::Waits => {
-            let got = more(STDIN_FILENO, b"standard input", buffer, before.to);
+            let got = more(STDIN_FILENO, b"standard input", buffer, to);
             if let Got::End = got {
-                let n = cardline_records::cut(before.to, out);
+                let n = cardline_records::cut(to, out);
                 show(out, n);
             }
             got
         }
-        Then::NoRoom => Got::Bytes(before.to),
+        Then::NoRoom => Got::Bytes(to),
     }
 }
 

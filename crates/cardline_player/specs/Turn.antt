@@ -10,6 +10,7 @@ use Rattle.cardline_records.specs.declared.Said.{Said}
 use Rattle.playing.specs.Playing.{keptOf}
 use Rattle.playing.specs.declared.Then.{Then}
 use Rattle.playing.specs.declared.Then.the-variants.{Goes, Stops, Waits, NoRoom}
+use Rattle.store.specs.Lent.{Lent}
 
 -- the bytes at hand: those of a buffer from one place to another
 abbrev pub atHand : ℕ → ℕ → List ℕ → List ℕ
@@ -26,18 +27,17 @@ turnedBy Stops said from to n = leftBy said to to Stops
 turnedBy Waits said from to n = leftBy said 0 n Waits
 turnedBy NoRoom said from to n = leftBy said from to NoRoom
 
-abbrev pub movedBy : Then → ℕ → ℕ → List ℕ → List ℕ
-movedBy Goes from n buffer = buffer
-movedBy Stops from n buffer = buffer
-movedBy Waits from n buffer = keptOf from n buffer
-movedBy NoRoom from n buffer = buffer
+abbrev pub bufferBy : Then → ℕ → ℕ → List ℕ → List ℕ
+bufferBy Goes from n buffer = buffer
+bufferBy Stops from n buffer = buffer
+bufferBy Waits from n buffer = keptOf from n buffer
+bufferBy NoRoom from n buffer = buffer
 
 -- the record at the front of what is at hand, carried out with an output of so many bytes: what is left, and the buffer afterwards
-unfoldable pub turnOf : Progress → ℕ → ℕ → List ℕ → List ℕ → List ℕ → ℕ → Turned
-turnOf w from to buffer memory map room =
-    turnedBy (saidOf w (atHand from to buffer) memory map room .then) (saidOf w (atHand from to buffer) memory map room) from to
+unfoldable pub advancedOf : Progress → ℕ → ℕ → List ℕ → Lent → ℕ → Turned
+advancedOf w from to buffer lent room =
+    turnedBy (saidOf w (atHand from to buffer) lent room .then) (saidOf w (atHand from to buffer) lent room) from to
     (min to (length buffer) - from)
 
-unfoldable pub bufferOf : Progress → ℕ → ℕ → List ℕ → List ℕ → List ℕ → ℕ → List ℕ
-bufferOf w from to buffer memory map room =
-    movedBy (saidOf w (atHand from to buffer) memory map room .then) from (min to (length buffer) - from) buffer
+unfoldable pub bufferOf : Progress → ℕ → ℕ → List ℕ → Lent → ℕ → List ℕ
+bufferOf w from to buffer lent room = bufferBy (saidOf w (atHand from to buffer) lent room .then) from (min to (length buffer) - from) buffer

@@ -13,9 +13,10 @@ ghost use mathlib.Core.Path.{_≡_};
 ghost use mathlib.Core.List.{_++_};
 ghost use Prim.Native.Nat.{_+_, _-_, _<_, min};
 ghost use lib.ListN.{length, drop};
-ghost use Rattle.cardline_player.specs.Turn.{atHand, leftBy, movedBy, turnedBy, turnOf, bufferOf};
-ghost use Rattle.cardline_records.specs.Record.{textOf, memoryAfter, mapAfter};
+ghost use Rattle.cardline_player.specs.Turn.{atHand, leftBy, bufferBy, turnedBy, advancedOf, bufferOf};
+ghost use Rattle.cardline_records.specs.Record.{textOf, buffersAfter};
 ghost use Rattle.cardline_script.specs.Whole.{longestRecord};
+ghost use Rattle.store.specs.Lent.{lentOf};
 ghost use Rattle.playing.specs.declared.Then.the-variants.{Waits};
 
 // What a turn leaves: the bytes of the buffer that are at hand, from one place to another; those of
@@ -53,7 +54,7 @@ fn behind(from: usize, used: usize, to: usize) -> usize
 // more.
 fn settle(said: Said, from: usize, to: usize, buffer: &mut [u8]) -> Turned
     ensures answer { λ r. ⌜ r ≡ turnedBy (said .then) said from to (min to (length (now (buffer .entry))) - from) ⌝ }
-    ensures buffer { λ _. ⌜ now (buffer .exit) ≡ movedBy (said .then) from (min to (length (now (buffer .entry))) - from) (now (buffer .entry)) ⌝ }
+    ensures buffer { λ _. ⌜ now (buffer .exit) ≡ bufferBy (said .then) from (min to (length (now (buffer .entry))) - from) (now (buffer .entry)) ⌝ }
 {
     let then = said.then;
     match then {
@@ -90,11 +91,10 @@ pub fn advance(
     map: &mut [u8],
     out: &mut [u8],
 ) -> Turned
-    ensures answer { λ r. ⌜ r ≡ turnOf progress from to (now (buffer .entry)) (now (memory .entry)) (now (map .entry)) (length (now (out .entry))) ⌝ }
-    ensures buffer { λ _. ⌜ now (buffer .exit) ≡ bufferOf progress from to (now (buffer .entry)) (now (memory .entry)) (now (map .entry)) (length (now (out .entry))) ⌝ }
-    ensures memory { λ _. ⌜ now (memory .exit) ≡ memoryAfter progress (atHand from to (now (buffer .entry))) (now (memory .entry)) (now (map .entry)) (length (now (out .entry))) ⌝ }
-    ensures map { λ _. ⌜ now (map .exit) ≡ mapAfter progress (atHand from to (now (buffer .entry))) (now (memory .entry)) (now (map .entry)) (length (now (out .entry))) ⌝ }
-    ensures text { λ r. ⌜ now (out .exit) ≡ textOf progress (atHand from to (now (buffer .entry))) (now (memory .entry)) (now (map .entry)) (length (now (out .entry))) ++ drop (r .wrote) (now (out .entry)) ⌝ }
+    ensures answer { λ r. ⌜ r ≡ advancedOf progress from to (now (buffer .entry)) (lentOf (now (memory .entry)) (now (map .entry))) (length (now (out .entry))) ⌝ }
+    ensures buffer { λ _. ⌜ now (buffer .exit) ≡ bufferOf progress from to (now (buffer .entry)) (lentOf (now (memory .entry)) (now (map .entry))) (length (now (out .entry))) ⌝ }
+    ensures lent { λ _. ⌜ lentOf (now (memory .exit)) (now (map .exit)) ≡ buffersAfter progress (atHand from to (now (buffer .entry))) (lentOf (now (memory .entry)) (now (map .entry))) (length (now (out .entry))) ⌝ }
+    ensures text { λ r. ⌜ now (out .exit) ≡ textOf progress (atHand from to (now (buffer .entry))) (lentOf (now (memory .entry)) (now (map .entry))) (length (now (out .entry))) ++ drop (r .wrote) (now (out .entry)) ⌝ }
     ensures room { λ r. ⌜ (r .then ≡ Waits → r .to < longestRecord) ⌝ }
 {
     let script = at_hand(buffer, from, to);

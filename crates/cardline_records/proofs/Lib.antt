@@ -1,6 +1,7 @@
-pub mod Pieces
-pub mod Reading
+pub mod Carrying
 pub mod Lending
 pub mod Lengths
+pub mod Pieces
+pub mod Reading
 pub mod Sending
 pub mod WrongAnswers

@@ -5,7 +5,7 @@
 --   told     and what was printed turn by turn, once the script stopped or its bytes ended, is the transcript of the whole
 --   few      where a record is not whole yet, fewer bytes are at hand than the longest record has
 -- Assumes nothing.
-use mathlib.Core.Path.{_≡_, refl, sym, ap, _∙_}
+use mathlib.Core.Path.{_≡_, refl}
 use mathlib.Core.Logic.{_⊎_, inl, inr}
 use mathlib.Core.Bool.{true, false}
 use mathlib.Core.List.{List, [], _++_}
@@ -14,14 +14,13 @@ use native.Mathlib.Omega.{arith}
 use lib.Dec.{leb}
 use lib.ListN.{length}
 use Rattle.base.proofs.Cases.{cases, clash}
-use Rattle.cardline_records.proofs.Reading.{same-text, same-memory, same-map, same-said}
-use Rattle.cardline_records.specs.Calls.{callText, callLeft, callSaid}
-use Rattle.cardline_records.specs.Makes.{cardMade, makeText, makeSaid}
-use Rattle.cardline_records.specs.Record.{goingText, goingSaid, askedText, askedMemory, askedMap, askedSaid, roomy, textOf, memoryAfter, mapAfter, saidOf}
+use Rattle.cardline_looks.specs.Lines.{roomy}
+use Rattle.cardline_records.proofs.Reading.{same-text, same-buffers, same-said}
+use Rattle.cardline_records.specs.Makes.{cardMade, makeSaid}
+use Rattle.cardline_records.specs.Record.{askedText, askedSaid, textOf, buffersAfter, saidOf}
 use Rattle.cardline_records.specs.Transcript.{Kept, recordStep, freshKept, closed, transcript}
-use Rattle.cardline_records.specs.Progress.{freshProgress, recordCounted}
+use Rattle.cardline_records.specs.Progress.{freshProgress}
 use Rattle.cardline_records.specs.declared.Progress.{Progress}
-use Rattle.cardline_records.specs.declared.Said.{Said}
 use Rattle.card_record.specs.declared.Card.{Card}
 use Rattle.card_record.specs.declared.Making.{Making as Outcome}
 use Rattle.card_record.specs.declared.Making.the-variants.{Done, Refused}
@@ -41,8 +40,8 @@ use Rattle.cardline_script.specs.declared.Wiring.{Wiring}
 use Rattle.cardline_script.specs.declared.Wiring.the-variants as wiring
 use Rattle.playing.proofs.Joined.{Steady, joined, stopped-whole, waited-whole}
 use Rattle.playing.specs.Playing.{Played, unplayed, playedOf, nextPiece, fedAll, allOf}
-use Rattle.playing.specs.declared.Then.{Then}
 use Rattle.playing.specs.declared.Then.the-variants.{Goes, Stops, Waits, NoRoom}
+use Rattle.store.specs.Lent.{Lent}
 
 -- each kind of record has a byte or more
 call-uses : (c : Calling) → 1 ≤ usedBy c
@@ -69,104 +68,92 @@ going-takes (Look looking) = look-uses looking
 going-takes (Wire wiring) = wire-uses wiring
 
 -- what is said of a record that goes on: it used what it asked for
-module _ (w : Progress) (m : Making) (card : Card) where
-  make-used : (outcome : Outcome) → makeSaid w m card outcome .then ≡ Goes → makeSaid w m card outcome .used ≡ m .map + 43 + m .password
+module _ (w : Progress) (m : Making) (card : Card) (n : ℕ) where
+  make-used : (outcome : Outcome) → makeSaid w m card outcome n .then ≡ Goes → makeSaid w m card outcome n .used ≡ m .map + 43 + m .password
   make-used Done e = refl
   make-used (Refused refusal) e = clash cc
 
-  make-settled : (outcome : Outcome) → makeSaid w m card outcome .then ≡ Waits → ⊥
+  make-settled : (outcome : Outcome) → makeSaid w m card outcome n .then ≡ Waits → ⊥
   make-settled Done e = clash cc
   make-settled (Refused refusal) e = clash cc
 
-  make-wrote : (outcome : Outcome) → makeSaid w m card outcome .wrote ≡ length (makeText outcome)
+  make-wrote : (outcome : Outcome) → makeSaid w m card outcome n .wrote ≡ n
   make-wrote Done = refl
   make-wrote (Refused refusal) = refl
 
-module _ (s memory map : List ℕ) where
-  going-used : (w : Progress) (g : Going) → goingSaid w g s memory map .used ≡ usedGoing g
-  unfolding goingSaid callSaid callLeft
-  going-used w (Call calling) = refl
-  going-used w (Look looking) = refl
-  going-used w (Wire wiring) = refl
-
-  going-on : (w : Progress) (g : Going) → goingSaid w g s memory map .then ≡ Goes
-  unfolding goingSaid callSaid callLeft
-  going-on w (Call calling) = refl
-  going-on w (Look looking) = refl
-  going-on w (Wire wiring) = refl
-
-  going-wrote : (w : Progress) (g : Going) → goingSaid w g s memory map .wrote ≡ length (goingText w g s memory map)
-  unfolding goingSaid goingText callSaid callLeft callText
-  going-wrote w (Call calling) = refl
-  going-wrote w (Look looking) = refl
-  going-wrote w (Wire wiring) = refl
-
-  asked-used : (w : Progress) (a : Asked) → askedSaid w a s memory map .then ≡ Goes → askedSaid w a s memory map .used ≡ usedAsked a
+module _ (s : List ℕ) (buffers : Lent) (w : Progress) (n : ℕ) where
+  asked-used : (a : Asked) → askedSaid w a s buffers n .then ≡ Goes → askedSaid w a s buffers n .used ≡ usedAsked a
   unfolding askedSaid
-  asked-used w asked.More e = clash cc
-  asked-used w (asked.Stop stop) e = clash cc
-  asked-used w (asked.Make making) e = make-used w making (cardMade making s memory map .card) (cardMade making s memory map .making) e
-  asked-used w (asked.Go going) e = going-used (recordCounted w) going
+  asked-used asked.More e = clash cc
+  asked-used (asked.Stop stop) e = clash cc
+  asked-used (asked.Make making) e = make-used w making (cardMade making s buffers .card) n (cardMade making s buffers .making) e
+  asked-used (asked.Go going) e = refl
 
-  asked-takes : (w : Progress) (a : Asked) → askedSaid w a s memory map .then ≡ Goes → 1 ≤ usedAsked a
+  asked-takes : (a : Asked) → askedSaid w a s buffers n .then ≡ Goes → 1 ≤ usedAsked a
   unfolding askedSaid
-  asked-takes w asked.More e = clash cc
-  asked-takes w (asked.Stop stop) e = clash cc
-  asked-takes w (asked.Make making) e = omega arith
-  asked-takes w (asked.Go going) e = going-takes going
+  asked-takes asked.More e = clash cc
+  asked-takes (asked.Stop stop) e = clash cc
+  asked-takes (asked.Make making) e = omega arith
+  asked-takes (asked.Go going) e = going-takes going
 
-  asked-whole : (w : Progress) (a : Asked) → (askedSaid w a s memory map .then ≡ Waits → ⊥) → waits a ≡ false
+  asked-whole : (a : Asked) → (askedSaid w a s buffers n .then ≡ Waits → ⊥) → waits a ≡ false
   unfolding askedSaid
-  asked-whole w asked.More not = absurd (not refl)
-  asked-whole w (asked.Stop stop) not = refl
-  asked-whole w (asked.Make making) not = refl
-  asked-whole w (asked.Go going) not = refl
+  asked-whole asked.More not = absurd (not refl)
+  asked-whole (asked.Stop stop) not = refl
+  asked-whole (asked.Make making) not = refl
+  asked-whole (asked.Go going) not = refl
 
-  asked-waits : (w : Progress) (a : Asked) → askedSaid w a s memory map .then ≡ Waits → waits a ≡ true
+  asked-waits : (a : Asked) → askedSaid w a s buffers n .then ≡ Waits → waits a ≡ true
   unfolding askedSaid
-  asked-waits w asked.More e = refl
-  asked-waits w (asked.Stop stop) e = clash cc
-  asked-waits w (asked.Make making) e =
-      absurd (make-settled w making (cardMade making s memory map .card) (cardMade making s memory map .making) e)
-  asked-waits w (asked.Go going) e = let g = going-on (recordCounted w) going in clash cc
+  asked-waits asked.More e = refl
+  asked-waits (asked.Stop stop) e = clash cc
+  asked-waits (asked.Make making) e = absurd (make-settled w making (cardMade making s buffers .card) n (cardMade making s buffers .making) e)
+  asked-waits (asked.Go going) e = clash cc
 
-  asked-wrote : (w : Progress) (a : Asked) → askedSaid w a s memory map .wrote ≡ length (askedText w a s memory map)
-  unfolding askedSaid askedText
-  asked-wrote w asked.More = refl
-  asked-wrote w (asked.Stop stop) = refl
-  asked-wrote w (asked.Make making) = make-wrote w making (cardMade making s memory map .card) (cardMade making s memory map .making)
-  asked-wrote w (asked.Go going) = going-wrote (recordCounted w) going
+asked-wrote : (w : Progress) (s : List ℕ) (buffers : Lent) (a : Asked)
+    → askedSaid w a s buffers (length (askedText w a s buffers)) .wrote ≡ length (askedText w a s buffers)
+unfolding askedSaid askedText
+asked-wrote w s buffers asked.More = refl
+asked-wrote w s buffers (asked.Stop stop) = refl
+asked-wrote w s buffers (asked.Make making) = make-wrote w making (cardMade making s buffers .card) _ (cardMade making s buffers .making)
+asked-wrote w s buffers (asked.Go going) = refl
 
-pub wrote : (w : Progress) (s memory map : List ℕ) (room : ℕ) → saidOf w s memory map room .wrote ≡ length (textOf w s memory map room)
+pub wrote : (w : Progress) (s : List ℕ) (buffers : Lent) (room : ℕ) → saidOf w s buffers room .wrote ≡ length (textOf w s buffers room)
 unfolding saidOf textOf
-wrote w s memory map room =
+wrote w s buffers room =
     cases (leb roomy room)
-    (λ (t : leb roomy room ≡ true). rw t (asked-wrote s memory map w (askedOf (w .made) s)))
+    (λ (t : leb roomy room ≡ true). rw t (asked-wrote w s buffers (askedOf (w .made) s)))
     (λ (t : leb roomy room ≡ false). rw t)
 
+-- the record at hand, and the length of its line
+abbrev heldBy : Kept → List ℕ → Asked
+heldBy k s = askedOf (k .progress .made) s
+
+abbrev longBy : Kept → List ℕ → ℕ
+longBy k s = length (askedText (k .progress) (heldBy k s) s (k .buffers))
+
 stands : (k : Kept) (s t : List ℕ) → (recordStep k s .then ≡ Waits → ⊥) → recordStep k (s ++ t) ≡ recordStep k s
-unfolding recordStep textOf memoryAfter mapAfter saidOf
+unfolding recordStep textOf buffersAfter saidOf
 stands k s t not =
     let w = k .progress in
-    let a = askedOf (w .made) s in
+    let a = heldBy k s in
     let h : usedAsked a ≤ length s = inside (w .made) s in
     rw (
-      stays (w .made) s t (asked-whole s (k .memory) (k .map) w a not),
-      same-text s t (k .memory) (k .map) w a h,
-      same-memory s t (k .memory) (k .map) w a h,
-      same-map s t (k .memory) (k .map) w a h,
-      same-said s t (k .memory) (k .map) w a h,
+      stays (w .made) s t (asked-whole s (k .buffers) w (longBy k s) a not),
+      same-text s t (k .buffers) w a h,
+      same-buffers s t (k .buffers) w a h,
+      same-said s t (k .buffers) w a (longBy k s) h,
     )
 
 pub steady : Steady recordStep
 unfolding recordStep saidOf
 steady = record {
   takes = λ k s e.
-      let u = asked-used s (k .memory) (k .map) (k .progress) (askedOf (k .progress .made) s) e in
-      let i = asked-takes s (k .memory) (k .map) (k .progress) (askedOf (k .progress .made) s) e in
+      let u = asked-used s (k .buffers) (k .progress) (longBy k s) (heldBy k s) e in
+      let i = asked-takes s (k .buffers) (k .progress) (longBy k s) (heldBy k s) e in
       omega arith;
   inside = λ k s e.
-      let u = asked-used s (k .memory) (k .map) (k .progress) (askedOf (k .progress .made) s) e in
+      let u = asked-used s (k .buffers) (k .progress) (longBy k s) (heldBy k s) e in
       let i = inside (k .progress .made) s in
       omega arith;
   stays = stands;
@@ -190,9 +177,10 @@ module _ (ps : List (List ℕ)) where
   told (inl e) = rw (stopped-whole recordStep steady 1 freshKept ps empty e)
   told (inr e) = rw (waited-whole recordStep steady 1 freshKept ps empty e)
 
-pub few : (w : Progress) (s memory map : List ℕ) (room : ℕ) → Bytes s → saidOf w s memory map room .then ≡ Waits → length s < longestRecord
+pub few : (w : Progress) (s : List ℕ) (buffers : Lent) (room : ℕ) → Bytes s → saidOf w s buffers room .then ≡ Waits → length s < longestRecord
 unfolding saidOf
-few w s memory map room bytes e =
+few w s buffers room bytes e =
+    let a = askedOf (w .made) s in
     cases (leb roomy room)
-    (λ (t : leb roomy room ≡ true). short (w .made) s bytes (asked-waits s memory map w (askedOf (w .made) s) (rw t at e)))
+    (λ (t : leb roomy room ≡ true). short (w .made) s bytes (asked-waits s buffers w (length (askedText w a s buffers)) a (rw t at e)))
     (λ (t : leb roomy room ≡ false). let n : NoRoom ≡ Waits = rw t at e in clash cc)

@@ -1,6 +1,5 @@
--- Laws of what a card sends, and of a writer's answer with the output that it was lent.
---   sent-text, unsent-text    the line of what a card sends, written and not
---   frame-text, block-text    the line of a written frame and of a written block
+-- Laws of what a card sends.
+--   sent-text, unsent-text    its line, written and not
 -- Assumes nothing.
 use mathlib.Core.Path.{_≡_, sym, ap, _∙_}
 use mathlib.Core.List.{List, []}
@@ -15,16 +14,13 @@ use Rattle.base.specs.Refusals.{by}
 use Rattle.base.specs.declared.Refusal.{Refusal}
 use Rattle.base.specs.declared.Written.{Written}
 use Rattle.base.specs.declared.Written.the-variants.{Bytes, Refused}
+use Rattle.cardline_looks.specs.Lines.{refusedLine}
 use Rattle.cardline_records.specs.Calls.{shownText, sentLine}
-use Rattle.cardline_records.specs.Lines.{refusedLine}
-use Rattle.cardline_records.specs.Words.{frameWord, dataWord}
-use Rattle.cardline_records.specs.Wires.{writtenText, writeFrameText, writeBlockText}
 use Rattle.command.specs.Sending.{sentBytes, sentWritten}
 use Rattle.command.specs.declared.Sent.{Sent}
 use Rattle.command.specs.declared.Sent.the-variants.{Nothing, Status, Cid, Csd, Ocr}
 use Rattle.card_record.specs.declared.Registers.{Registers}
-use Rattle.wire.specs.Blocks.{blockOf, blockWritten}
-use Rattle.wire.specs.Frames.{commandFrame, indexed}
+use Rattle.wire.specs.Frames.{indexed}
 
 never : (refusal : Refusal) (n : ℕ) → Refused refusal ≡ Bytes n → ⊥
 never refusal n e = let z : _≡_ {A = ℕ} 0 1 = cc in omega arith
@@ -61,21 +57,3 @@ module _ (count : ℕ) (registers : Registers) (sent : Sent) (out after : List �
   pub unsent-text : (refusal : Refusal) → w ≡ Refused refusal
       → refusedLine count refusal [] ≡ sentLine count (sentWritten registers sent out) (sentBytes registers sent)
   unsent-text refusal er = ap (λ (x : Written). sentLine count x (sentBytes registers sent)) (sym er ∙ ew)
-
-pub frame-text : (count index argument : ℕ) (blank before after : List ℕ) (w : Written) → before ≡ blank
-    → w ≡ indexed index (commandFrame index argument) before → after ≡ laid w (commandFrame index argument) before
-    → writtenText count frameWord w after ≡ writeFrameText count index argument blank
-unfolding writeFrameText
-frame-text count index argument blank before after w eb ew ea =
-    let frame : List ℕ = commandFrame index argument in
-    ap (writtenText count frameWord w) ea
-    ∙ ap (λ (x : Written). writtenText count frameWord x (laid x frame before)) ew
-    ∙ ap (λ (l : List ℕ). writtenText count frameWord (indexed index frame l) (laid (indexed index frame l) frame l)) eb
-
-pub block-text : (count : ℕ) (payload blank before after : List ℕ) (w : Written) → before ≡ blank → w ≡ blockWritten payload before
-    → after ≡ laid w (blockOf payload) before → writtenText count dataWord w after ≡ writeBlockText count payload blank
-unfolding writeBlockText
-block-text count payload blank before after w eb ew ea =
-    ap (writtenText count dataWord w) ea
-    ∙ ap (λ (x : Written). writtenText count dataWord x (laid x (blockOf payload) before)) ew
-    ∙ ap (λ (l : List ℕ). writtenText count dataWord (blockWritten payload l) (laid (blockWritten payload l) (blockOf payload) l)) eb

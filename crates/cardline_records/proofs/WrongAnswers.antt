@@ -7,8 +7,6 @@
 --   refused-goes-on   a script that goes on behind it
 --   refused-made      a card that it leaves
 --   map-unset         0A that leaves the map as it was
---   past-map-set      0A that sets an entry behind the card's map
---   lent-kept         09 that leaves what is lent as it was
 --   zeros-shown       zeros shown for the output of a refused 04, which holds A5
 --   unroomy-written   a line in an output that has not room for every line
 --   unroomy-stops     a script that stops there
@@ -28,13 +26,14 @@ use Rattle.text.specs.Lines.{numberText, hexText, endText, headText, namedLine,
 use Rattle.text.specs.Text.{hexOf, digitsOf, decimalOf}
 use Rattle.text.specs.Words.{ascii}
 use Rattle.card_record.specs.Making.{refusedMake, madeOf}
-use Rattle.cardline_script.specs.Reading.{two, three, makingAsked, makeAsked, blockOutAsked, lendAsked, pokeAsked, shownAsked, moreAsked, askedOf}
+use Rattle.cardline_script.specs.Reading.{two, three, makingAsked, makeAsked, blockOutAsked, pokeAsked, shownAsked, moreAsked, askedOf}
 use Rattle.store.specs.Map.{entriesRight}
 use Rattle.cardline_records.specs.Calls.{stepLent, outputLent, callText}
-use Rattle.cardline_records.specs.Lines.{numberLine}
-use Rattle.cardline_records.specs.Looks.{poked}
+use Rattle.cardline_looks.specs.Lines.{roomy, numberLine}
+use Rattle.cardline_looks.specs.Looks.{poked}
+use Rattle.store.specs.Lent.{Lent, lentOf}
 use Rattle.cardline_records.specs.Makes.{madeFrom, cardMade}
-use Rattle.cardline_records.specs.Record.{roomy, goingText, goingMap, goingSaid, askedText, askedMap, askedSaid, textOf, memoryAfter, mapAfter, saidOf}
+use Rattle.cardline_records.specs.Record.{goingText, goingBuffers, goingProgress, askedText, askedBuffers, askedSaid, textOf, buffersAfter, saidOf}
 use Rattle.cardline_records.specs.Progress.{freshProgress, recordCounted}
 use Rattle.cardline_records.specs.Transcript.{recordStep, cutText, transcript}
 use Rattle.playing.specs.Playing.{playedIn, playedOf}
@@ -44,6 +43,10 @@ use Rattle.cardline_records.specs.declared.Progress.{Progress}
 -- a made card's progress, with a map of one byte and nothing carried out
 abbrev made : Progress
 made = record { card = refusedMake; made = true; own = record { memory = 0; map = 1 }; lent = record { memory = 0; map = 1 }; count = 0 }
+
+-- no buffers
+abbrev none : Lent
+none = lentOf [] []
 
 -- a make with a memory of no bytes
 abbrev unmade : List ℕ
@@ -57,51 +60,43 @@ fresh-made : freshProgress .made ≡ true → ⊥
 unfolding freshProgress
 fresh-made e = never e
 
-uncounted : saidOf made (7 ∷ []) [] [] roomy .progress .count ≡ 0 → ⊥
-unfolding saidOf askedSaid goingSaid recordCounted askedOf moreAsked
+uncounted : saidOf made (7 ∷ []) none roomy .progress .count ≡ 0 → ⊥
+unfolding saidOf askedSaid goingProgress recordCounted askedOf moreAsked
 uncounted e = omega arith
 
-refused-said-made : textOf freshProgress unmade [] [] roomy ≡ ascii "made\n" → ⊥
+refused-said-made : textOf freshProgress unmade none roomy ≡ ascii "made\n" → ⊥
 unfolding textOf askedText freshProgress askedOf makeAsked makingAsked three two cardMade madeFrom madeOf namedLine plainLine
 refused-said-made e = let d = ap (λ (l : List ℕ). getD l 0 0) e in omega arith
 
-refused-goes-on : saidOf freshProgress unmade [] [] roomy .then ≡ Goes → ⊥
+refused-goes-on : saidOf freshProgress unmade none roomy .then ≡ Goes → ⊥
 unfolding saidOf askedSaid freshProgress askedOf makeAsked makingAsked three two cardMade madeFrom madeOf
 refused-goes-on e = clash cc
 
-refused-made : saidOf freshProgress unmade [] [] roomy .progress .made ≡ true → ⊥
+refused-made : saidOf freshProgress unmade none roomy .progress .made ≡ true → ⊥
 unfolding saidOf askedSaid freshProgress askedOf makeAsked makingAsked three two cardMade madeFrom madeOf
 refused-made e = never e
 
-map-unset : mapAfter made (0x0A ∷ 0 ∷ 1 ∷ []) [] (0 ∷ 0 ∷ []) roomy ≡ 0 ∷ 0 ∷ [] → ⊥
-unfolding mapAfter askedMap goingMap recordCounted askedOf moreAsked shownAsked pokeAsked poked
+map-unset : buffersAfter made (0x0A ∷ 0 ∷ 1 ∷ []) (lentOf [] (0 ∷ 0 ∷ [])) roomy .map ≡ 0 ∷ 0 ∷ [] → ⊥
+unfolding buffersAfter askedBuffers goingBuffers recordCounted askedOf moreAsked shownAsked pokeAsked poked
 map-unset e = let d = ap (λ (l : List ℕ). getD l 0 0) e in omega arith
 
-past-map-set : mapAfter made (0x0A ∷ 1 ∷ 1 ∷ []) [] (0 ∷ 0 ∷ []) roomy ≡ 0 ∷ 1 ∷ [] → ⊥
-unfolding mapAfter askedMap goingMap recordCounted askedOf moreAsked shownAsked pokeAsked poked
-past-map-set e = let d = ap (λ (l : List ℕ). getD l 1 0) e in omega arith
-
-lent-kept : saidOf made (0x09 ∷ 0 ∷ 0 ∷ 2 ∷ 1 ∷ []) [] [] roomy .progress .lent .memory ≡ 0 → ⊥
-unfolding saidOf askedSaid goingSaid recordCounted askedOf moreAsked shownAsked lendAsked three two
-lent-kept e = omega arith
-
-zeros-shown : textOf made (4 ∷ 0 ∷ 2 ∷ []) [] (0 ∷ []) roomy ≡ ascii "1 refused 12 0000\n" → ⊥
+zeros-shown : textOf made (4 ∷ 0 ∷ 2 ∷ []) (lentOf [] (0 ∷ [])) roomy ≡ ascii "1 refused 12 0000\n" → ⊥
 unfolding textOf askedText goingText recordCounted askedOf moreAsked blockOutAsked two callText stepLent outputLent outJudged entriesRight refusedMake numberLine headText endText hexText hexOf numberText decimalOf digitsOf
 zeros-shown e = let d = ap (λ (l : List ℕ). getD l 13 0) e in omega arith
 
-unroomy-written : textOf freshProgress (2 ∷ []) [] [] 131135 ≡ ascii "no card\n" → ⊥
+unroomy-written : textOf freshProgress (2 ∷ []) none 131135 ≡ ascii "no card\n" → ⊥
 unfolding textOf
 unroomy-written e = let d = ap (λ (l : List ℕ). getD l 0 0) e in omega arith
 
-unroomy-stops : saidOf freshProgress (2 ∷ []) [] [] 131135 .then ≡ Stops → ⊥
+unroomy-stops : saidOf freshProgress (2 ∷ []) none 131135 .then ≡ Stops → ⊥
 unfolding saidOf
 unroomy-stops e = clash cc
 
-short-stops : saidOf freshProgress (1 ∷ []) [] [] roomy .then ≡ Stops → ⊥
+short-stops : saidOf freshProgress (1 ∷ []) none roomy .then ≡ Stops → ⊥
 unfolding saidOf askedSaid freshProgress askedOf makeAsked
 short-stops e = clash cc
 
-short-written : textOf freshProgress (1 ∷ []) [] [] roomy ≡ ascii "cut\n" → ⊥
+short-written : textOf freshProgress (1 ∷ []) none roomy ≡ ascii "cut\n" → ⊥
 unfolding textOf askedText freshProgress askedOf makeAsked
 short-written e = let d = ap (λ (l : List ℕ). getD l 0 0) e in omega arith
 
@@ -113,13 +108,13 @@ unfolding plainLine
 left-uncut e = let d = ap (λ (l : List ℕ). getD l 0 0) e in omega arith
 
 mute : transcript (2 ∷ []) ≡ [] → ⊥
-unfolding transcript playedOf playedIn recordStep freshProgress textOf saidOf memoryAfter mapAfter askedOf askedText askedSaid plainLine
+unfolding transcript playedOf playedIn recordStep freshProgress textOf saidOf buffersAfter askedOf askedText askedSaid plainLine
 mute e = let d = ap (λ (l : List ℕ). getD l 0 0) e in omega arith
 
 past-a-stop : transcript (2 ∷ 2 ∷ []) ≡ ascii "no card\nno card\n" → ⊥
-unfolding transcript playedOf playedIn recordStep freshProgress textOf saidOf memoryAfter mapAfter askedOf askedText askedSaid plainLine
+unfolding transcript playedOf playedIn recordStep freshProgress textOf saidOf buffersAfter askedOf askedText askedSaid plainLine
 past-a-stop e = let d = ap (λ (l : List ℕ). getD l 8 0) e in omega arith
 
 uncut : transcript (1 ∷ []) ≡ [] → ⊥
-unfolding transcript playedOf playedIn recordStep freshProgress textOf saidOf memoryAfter mapAfter askedOf makeAsked askedText askedSaid plainLine
+unfolding transcript playedOf playedIn recordStep freshProgress textOf saidOf buffersAfter askedOf makeAsked askedText askedSaid plainLine
 uncut e = let d = ap (λ (l : List ℕ). getD l 0 0) e in omega arith

@@ -1,46 +1,45 @@
 -- The calls of the card, kinds 02 to 06.
 -- Assumes nothing.
 use mathlib.Core.Bool.{true}
-use mathlib.Core.List.{List, [], _++_}
-use Prim.Native.Nat.{ℕ, _+_}
+use mathlib.Core.List.{List, []}
+use Prim.Native.Nat.{ℕ}
 use lib.Dec.{eqb}
 use lib.ListN.{length, take, drop, replicate}
 use Rattle.base.specs.Choice.{pick}
 use Rattle.base.specs.declared.Written.{Written}
 use Rattle.base.specs.declared.Written.the-variants.{Bytes, Refused as NotWritten}
-use Rattle.cardline_records.specs.Lines.{numberLine, refusedLine}
+use Rattle.cardline_looks.specs.Lines.{numberLine, refusedLine, blank}
+use Rattle.cardline_looks.specs.Looks.{frontOf}
 use Rattle.text.specs.Lines.{wordLine}
 use Rattle.cardline_records.specs.Words.{takenWord, blockWord, doneWord, powerWord}
 use Rattle.text.specs.Words.{lineWord, silentWord}
-use Rattle.cardline_records.specs.Progress.{withCard, goneOn, lentMemory, lentMap}
+use Rattle.cardline_records.specs.Progress.{putBack}
 use Rattle.cardline_script.specs.declared.Calling.{Calling}
 use Rattle.cardline_script.specs.declared.Calling.the-variants.{Frame, BlockIn, BlockOut, WorkDone, PowerOn}
-use Rattle.cardline_records.specs.declared.Said.{Said}
-use Rattle.cardline_records.specs.declared.Progress.{Progress}
+use Rattle.cardline_script.specs.declared.Sizes.{Sizes}
 use Rattle.command.specs.Sending.{sentBytes, sentWritten}
-use Rattle.card.specs.Step.{stepOf, memoryOf, mapOf, outputOf}
+use Rattle.card.specs.Step.{stepOf, lentAfter, outputOf}
 use Rattle.card.specs.declared.Call.{Call}
 use Rattle.card.specs.declared.Call.the-variants as call
 use Rattle.card.specs.declared.Outcome.{Outcome}
 use Rattle.card.specs.declared.Outcome.the-variants.{Done, Wrote, Refused}
+use Rattle.card.specs.declared.Reply.{Reply}
 use Rattle.card.specs.declared.Stepped.{Stepped}
 use Rattle.command.specs.declared.Sent.{Sent}
+use Rattle.card_record.specs.declared.Card.{Card}
 use Rattle.card_record.specs.declared.Registers.{Registers}
+use Rattle.store.specs.Lent.{Lent, seen}
 
--- a call, lent what 09 said last: the next record and the answer, and the buffers and the output afterwards
-unfoldable pub stepLent : Progress → Call → List ℕ → List ℕ → List ℕ → ℕ → Stepped
-stepLent w call input memory map room = stepOf (w .card) call input (length (lentMemory w memory)) (lentMap w map) room
+-- a call, lent the first bytes of two buffers: the next record and the answer; the buffers and the output afterwards. "the first ones of each
+-- and, past the end, surplus bytes that hold 00", which stand behind the card's own
+unfoldable pub stepLent : Card → Sizes → Call → List ℕ → Lent → ℕ → Stepped
+stepLent card lent call input buffers room = stepOf card call input (seen (frontOf lent buffers)) room
 
-unfoldable pub memoryLent : Progress → Call → List ℕ → List ℕ → List ℕ → List ℕ
-memoryLent w call input memory map =
-    memoryOf (w .card) call input (lentMemory w memory) (lentMap w map) ++ drop (w .lent .memory) memory
+unfoldable pub buffersLent : Card → Sizes → Call → List ℕ → Lent → Lent
+buffersLent card lent call input buffers = putBack lent buffers (lentAfter card call input (frontOf lent buffers))
 
-unfoldable pub mapLent : Progress → Call → List ℕ → List ℕ → List ℕ → List ℕ
-mapLent w call input memory map =
-    mapOf (w .card) call input (length (lentMemory w memory)) (lentMap w map) ++ drop (w .lent .map) map
-
-unfoldable pub outputLent : Progress → Call → List ℕ → List ℕ → List ℕ → List ℕ
-outputLent w call memory map out = outputOf (w .card) call (lentMemory w memory) (lentMap w map) out
+unfoldable pub outputLent : Card → Sizes → Call → Lent → List ℕ → List ℕ
+outputLent card lent call buffers out = outputOf card call (frontOf lent buffers) out
 
 -- | 02 | `N line HEX`, `N silent` or `N refused R` |
 -- a card that sends nothing is silent
@@ -76,31 +75,17 @@ blockText count (Refused refusal) output = refusedLine count refusal output
 -- the line of a call with what it answered and the output that it was lent
 -- | 05 | `N done` |
 -- | 06 | `N power` |
-abbrev pub replyText : ℕ → Call → Registers → Outcome → Sent → List ℕ → List ℕ
-replyText count (call.Frame wins) registers outcome sent output = frameText count registers outcome sent
-replyText count call.BlockIn registers outcome sent output = takenText count outcome
-replyText count call.BlockOut registers outcome sent output = blockText count outcome output
-replyText count call.WorkDone registers outcome sent output = wordLine count doneWord []
-replyText count call.PowerOn registers outcome sent output = wordLine count powerWord []
+abbrev pub replyText : ℕ → Call → Registers → Reply → List ℕ → List ℕ
+replyText count (call.Frame wins) registers reply output = frameText count registers (reply .outcome) (reply .sent)
+replyText count call.BlockIn registers reply output = takenText count (reply .outcome)
+replyText count call.BlockOut registers reply output = blockText count (reply .outcome) output
+replyText count call.WorkDone registers reply output = wordLine count doneWord []
+replyText count call.PowerOn registers reply output = wordLine count powerWord []
 
--- the output that a call is lent: "a lent output of L bytes that all hold A5 before the call"
-abbrev pub blank : ℕ → List ℕ
-blank room = replicate room 0xA5
-
--- a call with its input, lent an output of so many bytes: the line, and what is kept
-unfoldable pub callText : Progress → Call → List ℕ → List ℕ → List ℕ → ℕ → List ℕ
-callText w call input memory map room =
-    replyText (w .count) call (w .card .registers) (stepLent w call input memory map room .reply .outcome)
-    (stepLent w call input memory map room .reply .sent) (outputLent w call memory map (blank room))
-
-unfoldable pub callLeft : Progress → Call → ℕ → Stepped → List ℕ → Said
-callLeft w call used stepped output =
-    goneOn (withCard w (stepped .card)) used
-    (length (replyText (w .count) call (w .card .registers) (stepped .reply .outcome) (stepped .reply .sent) output))
-
-unfoldable pub callSaid : Progress → Call → List ℕ → ℕ → List ℕ → List ℕ → ℕ → Said
-callSaid w call input used memory map room =
-    callLeft w call used (stepLent w call input memory map room) (outputLent w call memory map (blank room))
+-- the line of a call with its input, lent an output of so many bytes
+unfoldable pub callText : ℕ → Card → Sizes → Call → List ℕ → Lent → ℕ → List ℕ
+callText count card lent call input buffers room =
+    replyText count call (card .registers) (stepLent card lent call input buffers room .reply) (outputLent card lent call buffers (blank room))
 
 -- which call a kind is ("In its own call a card is alone on the line, so CMD2 wins"), its input, and the bytes of its output: the other
 -- calls than 04 are lent none

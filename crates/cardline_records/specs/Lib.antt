@@ -1,9 +1,6 @@
 pub mod Calls
-pub mod Lines
-pub mod Looks
 pub mod Makes
+pub mod Progress
 pub mod Record
 pub mod Transcript
-pub mod Wires
 pub mod Words
-pub mod Progress

@@ -5,6 +5,8 @@ use mathlib.Core.List.{List, _++_}
 use Prim.Native.Nat.{ℕ, _+_}
 use lib.ListN.{length, take, drop, replicate}
 use Rattle.base.specs.Output.{copied}
+use Rattle.cardline_looks.specs.Looks.{frontOf}
+use Rattle.store.specs.Lent.{Lent, Seen, lentOf, seen}
 use Rattle.text.specs.Lines.{plainLine, refusalLine}
 use Rattle.cardline_script.specs.Reading.{four}
 use Rattle.cardline_records.specs.Words.{madeWord}
@@ -30,21 +32,24 @@ memoryMade m memory = memoryFilled (m .memory) (m .fill) memory
 abbrev pub mapMade : Making → List ℕ → List ℕ → List ℕ
 mapMade m s map = copied (take (m .map) (drop 6 s)) map 0
 
+abbrev pub buffersMade : Making → List ℕ → Lent → Lent
+buffersMade m s buffers = lentOf (memoryMade m (buffers .memory)) (mapMade m s (buffers .map))
+
+abbrev pub sizesMade : Making → Sizes
+sizesMade m = record { memory = m .memory; map = m .map }
+
 -- the 16 bytes of a register from a place on
 abbrev pub registerAt : List ℕ → ℕ → List ℕ
 registerAt s at = copied (take 16 (drop at s)) (replicate 16 0) 0
 
--- the card of the record's bytes, lent a memory of so many bytes and a map
-unfoldable pub madeFrom : Making → List ℕ → ℕ → List ℕ → Made
-madeFrom m s memory map =
-    madeOf (registerAt s (m .map + 6)) (registerAt s (m .map + 22)) (four s (m .map + 38)) (take (m .password) (drop (m .map + 43) s)) memory map
+-- the card of the record's bytes, from what making may see of what it is lent
+unfoldable pub madeFrom : Making → List ℕ → Seen → Made
+madeFrom m s seen =
+    madeOf (registerAt s (m .map + 6)) (registerAt s (m .map + 22)) (four s (m .map + 38)) (take (m .password) (drop (m .map + 43) s)) (seen .bytes) (seen .map)
 
 -- "lent a memory of M bytes .., and a map of the m bytes"
-unfoldable pub cardMade : Making → List ℕ → List ℕ → List ℕ → Made
-cardMade m s memory map = madeFrom m s (length (take (m .memory) memory)) (take (m .map) (mapMade m s map))
-
-abbrev pub sizesMade : Making → Sizes
-sizesMade m = record { memory = m .memory; map = m .map }
+unfoldable pub cardMade : Making → List ℕ → Lent → Made
+cardMade m s buffers = madeFrom m s (seen (frontOf (sizesMade m) (buffersMade m s buffers)))
 
 -- the new card in its progress: no record was carried out since
 unfoldable pub madeProgress : Making → Card → Progress
@@ -55,7 +60,7 @@ abbrev pub makeText : Outcome → List ℕ
 makeText Done = plainLine madeWord
 makeText (Refused refusal) = refusalLine refusal
 
--- "A refused make prints `refused R` and stops"
-abbrev pub makeSaid : Progress → Making → Card → Outcome → Said
-makeSaid w m card Done = goneOn (madeProgress m card) (m .map + 43 + m .password) (length (makeText Done))
-makeSaid w m card (Refused refusal) = ended w (length (makeText (Refused refusal)))
+-- "A refused make prints `refused R` and stops". `wrote` is the length of its line
+abbrev pub makeSaid : Progress → Making → Card → Outcome → ℕ → Said
+makeSaid w m card Done wrote = goneOn (madeProgress m card) (m .map + 43 + m .password) wrote
+makeSaid w m card (Refused refusal) wrote = ended w wrote

@@ -1,10 +1,10 @@
 -- What is kept from record to record.
 -- Assumes nothing.
-use mathlib.Core.Bool.{true, false}
-use mathlib.Core.List.{List}
+use mathlib.Core.Bool.{false}
+use mathlib.Core.List.{_++_}
 use Prim.Native.Nat.{ℕ, _+_}
 use lib.Dec.{ltb}
-use lib.ListN.{take}
+use lib.ListN.{drop}
 use Rattle.base.specs.Choice.{pick}
 use Rattle.card_record.specs.Making.{refusedMake}
 use Rattle.card_record.specs.declared.Card.{Card}
@@ -13,6 +13,7 @@ use Rattle.cardline_script.specs.declared.Sizes.{Sizes}
 use Rattle.cardline_records.specs.declared.Progress.{Progress}
 use Rattle.playing.specs.declared.Then.{Then}
 use Rattle.playing.specs.declared.Then.the-variants.{Goes, Stops}
+use Rattle.store.specs.Lent.{Lent, lentOf}
 
 -- before a script there is no card, and nothing is lent
 unfoldable pub freshProgress : Progress
@@ -44,17 +45,7 @@ ended w wrote = record { progress = w; used = 0; wrote = wrote; then = Stops }
 abbrev pub untouched : Progress → Then → Said
 untouched w then = record { progress = w; used = 0; wrote = 0; then = then }
 
--- what the calls are lent of the two buffers: "the first ones of each and, past the end, surplus bytes that hold 00", which stand behind the
--- card's own; a size over the buffer's counts as the buffer's
-abbrev pub lentMemory : Progress → List ℕ → List ℕ
-lentMemory w memory = take (w .lent .memory) memory
-
-abbrev pub lentMap : Progress → List ℕ → List ℕ
-lentMap w map = take (w .lent .map) map
-
--- the card's own, "whatever 09 lends"
-abbrev pub ownMemory : Progress → List ℕ → List ℕ
-ownMemory w memory = take (w .own .memory) memory
-
-abbrev pub ownMap : Progress → List ℕ → List ℕ
-ownMap w map = take (w .own .map) map
+-- what became of the first bytes of two buffers, put back before what stands behind them
+abbrev pub putBack : Sizes → Lent → Lent → Lent
+putBack sizes buffers front =
+    lentOf (front .memory ++ drop (sizes .memory) (buffers .memory)) (front .map ++ drop (sizes .map) (buffers .map))

@@ -5,16 +5,17 @@ use Prim.Native.Nat.{ℕ}
 use lib.Dec.{leb}
 use lib.ListN.{length}
 use Rattle.base.specs.Choice.{unless}
-use Rattle.cardline_records.specs.Calls.{memoryLent, mapLent, callText, callSaid, calledBy, inputOf, roomOf}
+use Rattle.cardline_looks.specs.Lines.{roomy}
+use Rattle.cardline_looks.specs.Looks.{lookText, mapLooked, sizesLooked}
+use Rattle.cardline_looks.specs.Wires.{wireText}
+use Rattle.cardline_records.specs.Calls.{stepLent, buffersLent, callText, calledBy, inputOf, roomOf}
 use Rattle.text.specs.Lines.{plainLine}
-use Rattle.cardline_records.specs.Looks.{lookText, mapLooked, worldLooked}
-use Rattle.cardline_records.specs.Makes.{memoryMade, mapMade, cardMade, makeText, makeSaid}
+use Rattle.cardline_records.specs.Makes.{buffersMade, cardMade, makeText, makeSaid}
 use Rattle.cardline_script.specs.Reading.{askedOf}
-use Rattle.cardline_script.specs.Whole.{usedBy, usedLooked, usedWiring}
-use Rattle.cardline_records.specs.Wires.{wireText}
+use Rattle.cardline_script.specs.Whole.{usedGoing}
 use Rattle.cardline_records.specs.Words.{noCardWord, tooBigWord}
 use Rattle.text.specs.Words.{badKindWord}
-use Rattle.cardline_records.specs.Progress.{recordCounted, goneOn, ended, untouched}
+use Rattle.cardline_records.specs.Progress.{recordCounted, withCard, withLent, goneOn, ended, untouched}
 use Rattle.cardline_script.specs.declared.Asked.{Asked}
 use Rattle.cardline_script.specs.declared.Asked.the-variants as asked
 use Rattle.cardline_script.specs.declared.Going.{Going}
@@ -24,6 +25,7 @@ use Rattle.cardline_script.specs.declared.Stop.{Stop}
 use Rattle.cardline_script.specs.declared.Stop.the-variants.{NoCard, BadKind, TooBig}
 use Rattle.cardline_records.specs.declared.Progress.{Progress}
 use Rattle.playing.specs.declared.Then.the-variants.{Waits, NoRoom}
+use Rattle.store.specs.Lent.{Lent, withMap}
 
 -- why a script stops
 abbrev pub stopText : Stop → List ℕ
@@ -32,66 +34,51 @@ stopText BadKind = plainLine badKindWord
 stopText TooBig = plainLine tooBigWord
 
 -- a record of a made card: the line, the buffers afterwards, and what is kept
-unfoldable pub goingText : Progress → Going → List ℕ → List ℕ → List ℕ → List ℕ
-goingText w (Call calling) s memory map = callText w (calledBy calling) (inputOf calling s) memory map (roomOf calling)
-goingText w (Look looking) s memory map = lookText w looking memory map
-goingText w (Wire wiring) s memory map = wireText (w .count) wiring s
+unfoldable pub goingText : Progress → Going → List ℕ → Lent → List ℕ
+goingText w (Call calling) s buffers = callText (w .count) (w .card) (w .lent) (calledBy calling) (inputOf calling s) buffers (roomOf calling)
+goingText w (Look looking) s buffers = lookText (w .count) (w .own) (w .card .link) (w .card .lock .locked) looking buffers
+goingText w (Wire wiring) s buffers = wireText (w .count) wiring s
 
-unfoldable pub goingMemory : Progress → Going → List ℕ → List ℕ → List ℕ → List ℕ
-goingMemory w (Call calling) s memory map = memoryLent w (calledBy calling) (inputOf calling s) memory map
-goingMemory w (Look looking) s memory map = memory
-goingMemory w (Wire wiring) s memory map = memory
+unfoldable pub goingBuffers : Progress → Going → List ℕ → Lent → Lent
+goingBuffers w (Call calling) s buffers = buffersLent (w .card) (w .lent) (calledBy calling) (inputOf calling s) buffers
+goingBuffers w (Look looking) s buffers = withMap buffers (mapLooked (w .own) looking (buffers .map))
+goingBuffers w (Wire wiring) s buffers = buffers
 
-unfoldable pub goingMap : Progress → Going → List ℕ → List ℕ → List ℕ → List ℕ
-goingMap w (Call calling) s memory map = mapLent w (calledBy calling) (inputOf calling s) memory map
-goingMap w (Look looking) s memory map = mapLooked w looking map
-goingMap w (Wire wiring) s memory map = map
-
-unfoldable pub goingSaid : Progress → Going → List ℕ → List ℕ → List ℕ → Said
-goingSaid w (Call calling) s memory map = callSaid w (calledBy calling) (inputOf calling s) (usedBy calling) memory map (roomOf calling)
-goingSaid w (Look looking) s memory map = goneOn (worldLooked w looking) (usedLooked looking) (length (lookText w looking memory map))
-goingSaid w (Wire wiring) s memory map = goneOn w (usedWiring wiring) (length (wireText (w .count) wiring s))
+unfoldable pub goingProgress : Progress → Going → List ℕ → Lent → Progress
+goingProgress w (Call calling) s buffers =
+    withCard w (stepLent (w .card) (w .lent) (calledBy calling) (inputOf calling s) buffers (roomOf calling) .card)
+goingProgress w (Look looking) s buffers = withLent w (sizesLooked looking (w .lent))
+goingProgress w (Wire wiring) s buffers = w
 
 -- any record: its line. One that is not whole yet does nothing, and waits for more bytes
-unfoldable pub askedText : Progress → Asked → List ℕ → List ℕ → List ℕ → List ℕ
-askedText w asked.More s memory map = []
-askedText w (asked.Stop stop) s memory map = stopText stop
-askedText w (asked.Make making) s memory map = makeText (cardMade making s memory map .making)
-askedText w (asked.Go going) s memory map = goingText (recordCounted w) going s memory map
+unfoldable pub askedText : Progress → Asked → List ℕ → Lent → List ℕ
+askedText w asked.More s buffers = []
+askedText w (asked.Stop stop) s buffers = stopText stop
+askedText w (asked.Make making) s buffers = makeText (cardMade making s buffers .making)
+askedText w (asked.Go going) s buffers = goingText (recordCounted w) going s buffers
 
 -- the buffers afterwards
-unfoldable pub askedMemory : Progress → Asked → List ℕ → List ℕ → List ℕ → List ℕ
-askedMemory w asked.More s memory map = memory
-askedMemory w (asked.Stop stop) s memory map = memory
-askedMemory w (asked.Make making) s memory map = memoryMade making memory
-askedMemory w (asked.Go going) s memory map = goingMemory (recordCounted w) going s memory map
+unfoldable pub askedBuffers : Progress → Asked → List ℕ → Lent → Lent
+askedBuffers w asked.More s buffers = buffers
+askedBuffers w (asked.Stop stop) s buffers = buffers
+askedBuffers w (asked.Make making) s buffers = buffersMade making s buffers
+askedBuffers w (asked.Go going) s buffers = goingBuffers (recordCounted w) going s buffers
 
-unfoldable pub askedMap : Progress → Asked → List ℕ → List ℕ → List ℕ → List ℕ
-askedMap w asked.More s memory map = map
-askedMap w (asked.Stop stop) s memory map = map
-askedMap w (asked.Make making) s memory map = mapMade making s map
-askedMap w (asked.Go going) s memory map = goingMap (recordCounted w) going s memory map
+-- what is kept, how much of the script was used, and how the script goes on, where the line has so many bytes
+unfoldable pub askedSaid : Progress → Asked → List ℕ → Lent → ℕ → Said
+askedSaid w asked.More s buffers wrote = untouched w Waits
+askedSaid w (asked.Stop stop) s buffers wrote = ended w wrote
+askedSaid w (asked.Make making) s buffers wrote = makeSaid w making (cardMade making s buffers .card) (cardMade making s buffers .making) wrote
+askedSaid w (asked.Go going) s buffers wrote = goneOn (goingProgress (recordCounted w) going s buffers) (usedGoing going) wrote
 
--- what is kept, how much of the script was used and of the output written, and how the script goes on
-unfoldable pub askedSaid : Progress → Asked → List ℕ → List ℕ → List ℕ → Said
-askedSaid w asked.More s memory map = untouched w Waits
-askedSaid w (asked.Stop stop) s memory map = ended w (length (stopText stop))
-askedSaid w (asked.Make making) s memory map = makeSaid w making (cardMade making s memory map .card) (cardMade making s memory map .making)
-askedSaid w (asked.Go going) s memory map = goingSaid (recordCounted w) going s memory map
+-- the record at the front of a script, with two buffers and an output of so many bytes: one that has not room for every line is left alone
+unfoldable pub textOf : Progress → List ℕ → Lent → ℕ → List ℕ
+textOf w s buffers room = unless (leb roomy room) [] (askedText w (askedOf (w .made) s) s buffers)
 
--- room for the longest line: an output without it is left alone
-abbrev pub roomy : ℕ
-roomy = 131136
+unfoldable pub buffersAfter : Progress → List ℕ → Lent → ℕ → Lent
+buffersAfter w s buffers room = unless (leb roomy room) buffers (askedBuffers w (askedOf (w .made) s) s buffers)
 
--- the record at the front of a script, with two buffers and an output of so many bytes
-unfoldable pub textOf : Progress → List ℕ → List ℕ → List ℕ → ℕ → List ℕ
-textOf w s memory map room = unless (leb roomy room) [] (askedText w (askedOf (w .made) s) s memory map)
-
-unfoldable pub memoryAfter : Progress → List ℕ → List ℕ → List ℕ → ℕ → List ℕ
-memoryAfter w s memory map room = unless (leb roomy room) memory (askedMemory w (askedOf (w .made) s) s memory map)
-
-unfoldable pub mapAfter : Progress → List ℕ → List ℕ → List ℕ → ℕ → List ℕ
-mapAfter w s memory map room = unless (leb roomy room) map (askedMap w (askedOf (w .made) s) s memory map)
-
-unfoldable pub saidOf : Progress → List ℕ → List ℕ → List ℕ → ℕ → Said
-saidOf w s memory map room = unless (leb roomy room) (untouched w NoRoom) (askedSaid w (askedOf (w .made) s) s memory map)
+unfoldable pub saidOf : Progress → List ℕ → Lent → ℕ → Said
+saidOf w s buffers room =
+    unless (leb roomy room) (untouched w NoRoom)
+    (askedSaid w (askedOf (w .made) s) s buffers (length (askedText w (askedOf (w .made) s) s buffers)))

@@ -5,31 +5,30 @@ use Prim.Native.Nat.{ℕ}
 use lib.Dec.{eqb}
 use lib.ListN.{length, replicate}
 use Rattle.base.specs.Choice.{pick}
-use Rattle.cardline_records.specs.Record.{roomy, textOf, memoryAfter, mapAfter, saidOf}
+use Rattle.cardline_looks.specs.Lines.{roomy}
+use Rattle.cardline_records.specs.Record.{textOf, buffersAfter, saidOf}
 use Rattle.cardline_records.specs.Progress.{freshProgress}
 use Rattle.cardline_records.specs.declared.Progress.{Progress}
 use Rattle.playing.specs.Playing.{Step, Played, playedIn, playedOf}
+use Rattle.store.specs.Lent.{Lent, lentOf}
 use Rattle.text.specs.Lines.{plainLine}
 use Rattle.text.specs.Words.{cutWord}
 
 -- what is kept from record to record, with the two buffers
 pub record Kept : Type 0 where
   pub progress : Progress
-  pub memory : List ℕ
-  pub map : List ℕ
+  pub buffers : Lent
 
-abbrev pub kept : Progress → List ℕ → List ℕ → Kept
-kept w memory map = record { progress = w; memory = memory; map = map }
+abbrev pub kept : Progress → Lent → Kept
+kept w buffers = record { progress = w; buffers = buffers }
 
 -- the record at the front of the bytes at hand, with room for its line
 unfoldable pub recordStep : Kept → List ℕ → Step Kept
 recordStep k s = record {
-  line = textOf (k .progress) s (k .memory) (k .map) roomy;
-  kept =
-      kept (saidOf (k .progress) s (k .memory) (k .map) roomy .progress) (memoryAfter (k .progress) s (k .memory) (k .map) roomy)
-      (mapAfter (k .progress) s (k .memory) (k .map) roomy);
-  used = saidOf (k .progress) s (k .memory) (k .map) roomy .used;
-  then = saidOf (k .progress) s (k .memory) (k .map) roomy .then;
+  line = textOf (k .progress) s (k .buffers) roomy;
+  kept = kept (saidOf (k .progress) s (k .buffers) roomy .progress) (buffersAfter (k .progress) s (k .buffers) roomy);
+  used = saidOf (k .progress) s (k .buffers) roomy .used;
+  then = saidOf (k .progress) s (k .buffers) roomy .then;
 }
 
 -- a turn of the program: the record at the front of a piece of a script, if it is whole. Its line, what is kept behind it, the bytes left
@@ -43,7 +42,7 @@ cutText left = pick (eqb left 0) [] (plainLine cutWord)
 
 -- a whole script, from buffers of zeros that hold the largest lent memory and map
 abbrev pub freshKept : Kept
-freshKept = kept freshProgress (replicate 528384 0) (replicate 256 0)
+freshKept = kept freshProgress (lentOf (replicate 528384 0) (replicate 256 0))
 
 abbrev pub closed : Played Kept → List ℕ
 closed played = played .text ++ cutText (length (played .left))

@@ -1,4 +1,4 @@
--- The words that only lines of `cardline` have.
+-- The words that only lines of `cardline` have, of the make, the calls of the card and the stops.
 -- Assumes nothing.
 use mathlib.Core.List.{List}
 use Prim.Native.Nat.{ℕ}
@@ -24,21 +24,3 @@ doneWord = ascii "done"
 
 abbrev pub powerWord : List ℕ
 powerWord = ascii "power"
-
-abbrev pub memWord : List ℕ
-memWord = ascii "mem"
-
-abbrev pub lentWord : List ℕ
-lentWord = ascii "lent"
-
-abbrev pub pokedWord : List ℕ
-pokedWord = ascii "poked"
-
-abbrev pub frameWord : List ℕ
-frameWord = ascii "frame"
-
-abbrev pub dataWord : List ℕ
-dataWord = ascii "data"
-
-abbrev pub goodWord : List ℕ
-goodWord = ascii "good"

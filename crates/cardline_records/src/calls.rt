@@ -1,14 +1,6 @@
 // Kinds 02 to 06: the calls of the card.
 //
-// Offers: `called`.
-use crate::Progress;
-use crate::Said;
-use crate::lines::refused;
-use crate::lines::refused_call;
-use crate::lines::say_number;
-use crate::lines::say_word;
-use crate::results::goes_on;
-use crate::results::with_card;
+// Offers: `Left`, `called`.
 use base::Written;
 use base::fill;
 use base::least;
@@ -16,94 +8,88 @@ use card::Call;
 use card::Outcome;
 use card::Reply;
 use card::Stepped;
+use card_record::Card;
 use card_record::Registers;
+use cardline_looks::lines::refused;
+use cardline_looks::lines::say_number;
+use cardline_looks::space;
 use cardline_script::Calling;
+use cardline_script::Sizes;
 use command::Sent;
 use text::lines::say;
 use text::parts::part;
 ghost use mathlib.Core.Path.{_≡_};
-ghost use Prim.Native.Nat.{_+_, _*_, _≤_, _<_};
+ghost use Prim.Native.Nat.{_<_};
 ghost use lib.ListN.{length};
-ghost use Rattle.cardline_records.specs.Calls.{stepLent, memoryLent, mapLent, outputLent, shownText, sentText, frameText, takenText, blockText, replyText, callText, callLeft, callSaid, calledBy, inputOf, roomOf};
-ghost use Rattle.cardline_script.specs.Whole.{usedBy};
-ghost use Rattle.text.specs.Writing.{Wrote};
+ghost use Rattle.cardline_looks.specs.Lines.{lineRoom, roomy};
+ghost use Rattle.cardline_records.specs.Calls.{stepLent, buffersLent, outputLent, shownText, sentText, frameText, takenText, blockText, replyText, callText, calledBy, inputOf, roomOf};
+ghost use Rattle.store.specs.Lent.{lentOf};
+ghost use Rattle.text.specs.Writing.{Put, Line};
 
 // A call of the card, through the socket, lent so much of each buffer.
 fn lent_step(
-    progress: Progress,
+    card: Card,
+    lent: Sizes,
     call: Call,
     input: &[u8],
     memory: &mut [u8],
     map: &mut [u8],
     output: &mut [u8],
 ) -> Stepped
-    ensures answer { λ r. ⌜ r ≡ stepLent progress call (now (input .entry)) (now (memory .entry)) (now (map .entry)) (length (now (output .entry))) ⌝ }
-    ensures memory { λ _. ⌜ now (memory .exit) ≡ memoryLent progress call (now (input .entry)) (now (memory .entry)) (now (map .entry)) ⌝ }
-    ensures map { λ _. ⌜ now (map .exit) ≡ mapLent progress call (now (input .entry)) (now (memory .entry)) (now (map .entry)) ⌝ }
-    ensures output { λ _. ⌜ now (output .exit) ≡ outputLent progress call (now (memory .entry)) (now (map .entry)) (now (output .entry)) ⌝ }
+    ensures answer { λ r. ⌜ r ≡ stepLent card lent call (now (input .entry)) (lentOf (now (memory .entry)) (now (map .entry))) (length (now (output .entry))) ⌝ }
+    ensures lent { λ _. ⌜ lentOf (now (memory .exit)) (now (map .exit)) ≡ buffersLent card lent call (now (input .entry)) (lentOf (now (memory .entry)) (now (map .entry))) ⌝ }
+    ensures output { λ _. ⌜ now (output .exit) ≡ outputLent card lent call (lentOf (now (memory .entry)) (now (map .entry))) (now (output .entry)) ⌝ }
 {
-    let k = least(progress.lent.memory as usize, memory.len());
-    let j = least(progress.lent.map as usize, map.len());
-    socket::step_in_place(
-        progress.card,
-        call,
-        input,
-        &mut memory[0..k],
-        &mut map[0..j],
-        output,
-    )
+    let k = least(lent.memory as usize, memory.len());
+    let j = least(lent.map as usize, map.len());
+    socket::step_in_place(card, call, input, &mut memory[0..k], &mut map[0..j], output)
 }
 
 fn shown(count: u64, bytes: &[u8], out: &mut [u8]) -> usize
-    requires { ⌜ 64 + length (now bytes) * 2 ≤ length (now out) ⌝ }
-    ensures { λ r. ⌜ Wrote (now (out .entry)) (now (out .exit)) 0 r (shownText count (now (bytes .entry))) ⌝ }
+    ensures { λ r. ⌜ Put (now (out .entry)) (now (out .exit)) 0 r (shownText count (now (bytes .entry))) ⌝ }
 {
     if bytes.len() == 0 {
-        return say_word(count, b"silent", out);
+        return say(count, b"silent", b"", out);
     }
     say(count, b"line", bytes, out)
 }
 
 // What a card sends, or that it is silent.
 fn sent_line(count: u64, registers: Registers, sent: Sent, out: &mut [u8]) -> usize
-    requires { ⌜ 131136 ≤ length (now out) ⌝ }
-    ensures { λ r. ⌜ Wrote (now (out .entry)) (now (out .exit)) 0 r (sentText count registers sent) ⌝ }
+    ensures { λ r. ⌜ Line (lineRoom 20 0) (now (out .entry)) (now (out .exit)) r (sentText count registers sent) ⌝ }
 {
     let mut bytes = [0u8; 17];
     let written = command::write_sent(registers, sent, &mut bytes);
     match written {
         Written::Bytes(n) => shown(count, part(&bytes, 0, n), out),
-        Written::Refused(refusal) => refused_call(count, refusal, out),
+        Written::Refused(refusal) => refused(count, refusal, b"", out),
     }
 }
 
 fn frame_line(count: u64, registers: Registers, reply: Reply, out: &mut [u8]) -> usize
-    requires { ⌜ 131136 ≤ length (now out) ⌝ }
-    ensures { λ r. ⌜ Wrote (now (out .entry)) (now (out .exit)) 0 r (frameText count registers (reply .outcome) (reply .sent)) ⌝ }
+    ensures { λ r. ⌜ Line (lineRoom 20 0) (now (out .entry)) (now (out .exit)) r (frameText count registers (reply .outcome) (reply .sent)) ⌝ }
 {
     let outcome = reply.outcome;
     let sent = reply.sent;
     match outcome {
         Outcome::Done => sent_line(count, registers, sent, out),
         Outcome::Wrote(_) => sent_line(count, registers, sent, out),
-        Outcome::Refused(refusal) => refused_call(count, refusal, out),
+        Outcome::Refused(refusal) => refused(count, refusal, b"", out),
     }
 }
 
 fn taken_line(count: u64, outcome: Outcome, out: &mut [u8]) -> usize
-    requires { ⌜ 131136 ≤ length (now out) ⌝ }
-    ensures { λ r. ⌜ Wrote (now (out .entry)) (now (out .exit)) 0 r (takenText count outcome) ⌝ }
+    ensures { λ r. ⌜ Line (lineRoom 20 0) (now (out .entry)) (now (out .exit)) r (takenText count outcome) ⌝ }
 {
     match outcome {
-        Outcome::Done => say_word(count, b"taken", out),
-        Outcome::Wrote(_) => say_word(count, b"taken", out),
-        Outcome::Refused(refusal) => refused_call(count, refusal, out),
+        Outcome::Done => say(count, b"taken", b"", out),
+        Outcome::Wrote(_) => say(count, b"taken", b"", out),
+        Outcome::Refused(refusal) => refused(count, refusal, b"", out),
     }
 }
 
 fn block_line(count: u64, outcome: Outcome, output: &[u8], out: &mut [u8]) -> usize
-    requires { ⌜ 64 + length (now output) * 2 ≤ length (now out) ⌝ }
-    ensures { λ r. ⌜ Wrote (now (out .entry)) (now (out .exit)) 0 r (blockText count outcome (now (output .entry))) ⌝ }
+    ensures { λ r. ⌜ Line (lineRoom 7 (length (now (output .entry)))) (now (out .entry)) (now (out .exit)) r (blockText count outcome (now (output .entry))) ⌝ }
 {
     match outcome {
         Outcome::Done => say_number(count, b"block", 0, output, out),
@@ -121,64 +107,46 @@ fn reply_line(
     output: &[u8],
     out: &mut [u8],
 ) -> usize
-    requires { ⌜ (131136 ≤ length (now out)) × (64 + length (now output) * 2 ≤ length (now out)) ⌝ }
-    ensures { λ r. ⌜ Wrote (now (out .entry)) (now (out .exit)) 0 r (replyText count call registers (reply .outcome) (reply .sent) (now (output .entry))) ⌝ }
+    ensures { λ r. ⌜ Line (lineRoom 20 (length (now (output .entry)))) (now (out .entry)) (now (out .exit)) r (replyText count call registers reply (now (output .entry))) ⌝ }
 {
     let outcome = reply.outcome;
     match call {
         Call::Frame { wins: _ } => frame_line(count, registers, reply, out),
         Call::BlockIn => taken_line(count, outcome, out),
         Call::BlockOut => block_line(count, outcome, output, out),
-        Call::WorkDone => say_word(count, b"done", out),
-        Call::PowerOn => say_word(count, b"power", out),
+        Call::WorkDone => say(count, b"done", b"", out),
+        Call::PowerOn => say(count, b"power", b"", out),
     }
 }
 
-// What a call leaves, and its line.
-fn tell(
-    progress: Progress,
-    call: Call,
-    used: usize,
-    stepped: Stepped,
-    output: &[u8],
-    out: &mut [u8],
-) -> Said
-    requires { ⌜ (131136 ≤ length (now out)) × (64 + length (now output) * 2 ≤ length (now out)) ⌝ }
-    ensures answer { λ r. ⌜ r ≡ callLeft progress call used stepped (now (output .entry)) ⌝ }
-    ensures text { λ r. ⌜ Wrote (now (out .entry)) (now (out .exit)) 0 (r .wrote) (replyText (progress .count) call (progress .card .registers) (stepped .reply .outcome) (stepped .reply .sent) (now (output .entry))) ⌝ }
-{
-    let reply = stepped.reply;
-    let wrote = reply_line(
-        progress.count,
-        call,
-        progress.card.registers,
-        reply,
-        output,
-        out,
-    );
-    goes_on(with_card(progress, stepped.card), used, wrote)
+// What a call leaves: the next record, and the bytes of its line.
+pub struct Left {
+    pub card: Card,
+    pub wrote: usize,
 }
 
-// A call with its input, lent an output that is made A5 first: its line, and what it leaves.
+// A call with its input, lent an output that is made A5 first: the next record, and its line.
 fn call_into(
-    progress: Progress,
+    count: u64,
+    card: Card,
+    lent: Sizes,
     call: Call,
     input: &[u8],
-    used: usize,
     memory: &mut [u8],
     map: &mut [u8],
     output: &mut [u8],
     out: &mut [u8],
-) -> Said
-    requires { ⌜ (131136 ≤ length (now out)) × (64 + length (now output) * 2 ≤ length (now out)) ⌝ }
-    ensures answer { λ r. ⌜ r ≡ callSaid progress call (now (input .entry)) used (now (memory .entry)) (now (map .entry)) (length (now (output .entry))) ⌝ }
-    ensures memory { λ _. ⌜ now (memory .exit) ≡ memoryLent progress call (now (input .entry)) (now (memory .entry)) (now (map .entry)) ⌝ }
-    ensures map { λ _. ⌜ now (map .exit) ≡ mapLent progress call (now (input .entry)) (now (memory .entry)) (now (map .entry)) ⌝ }
-    ensures text { λ r. ⌜ Wrote (now (out .entry)) (now (out .exit)) 0 (r .wrote) (callText progress call (now (input .entry)) (now (memory .entry)) (now (map .entry)) (length (now (output .entry)))) ⌝ }
+) -> Left
+    ensures record { λ r. ⌜ r .card ≡ stepLent card lent call (now (input .entry)) (lentOf (now (memory .entry)) (now (map .entry))) (length (now (output .entry))) .card ⌝ }
+    ensures lent { λ _. ⌜ lentOf (now (memory .exit)) (now (map .exit)) ≡ buffersLent card lent call (now (input .entry)) (lentOf (now (memory .entry)) (now (map .entry))) ⌝ }
+    ensures line { λ r. ⌜ Line (lineRoom 20 (length (now (output .entry)))) (now (out .entry)) (now (out .exit)) (r .wrote) (callText count card lent call (now (input .entry)) (lentOf (now (memory .entry)) (now (map .entry))) (length (now (output .entry)))) ⌝ }
 {
     fill(output, 0xA5);
-    let stepped = lent_step(progress, call, input, memory, map, output);
-    tell(progress, call, used, stepped, output, out)
+    let stepped = lent_step(card, lent, call, input, memory, map, output);
+    let reply = stepped.reply;
+    let wrote = reply_line(count, call, card.registers, reply, output, out);
+    let next = stepped.card;
+    Left { card: next, wrote }
 }
 
 fn called_by(calling: Calling) -> Call
@@ -218,49 +186,31 @@ fn room_of(calling: Calling) -> usize
     }
 }
 
-fn used_by(calling: Calling) -> usize
-    ensures { λ r. ⌜ r ≡ usedBy calling ⌝ }
-{
-    match calling {
-        Calling::Frame(n) => n as usize + 2,
-        Calling::BlockIn(n) => n as usize + 3,
-        Calling::BlockOut(_) => 3,
-        Calling::WorkDone => 1,
-        Calling::PowerOn => 1,
-    }
-}
-
-// Room for the longest output that a call is lent.
-pub fn space() -> [u8; 65536]
-    ensures { λ r. ⌜ 65536 ≡ length r ⌝ }
-{
-    [0; 65536]
-}
-
+// The call of a record at the front of a script, of a card that is lent so much of two buffers.
 pub fn called(
-    progress: Progress,
+    count: u64,
+    card: Card,
+    lent: Sizes,
     calling: Calling,
     script: &[u8],
     memory: &mut [u8],
     map: &mut [u8],
     out: &mut [u8],
-) -> Said
-    requires { ⌜ 131136 ≤ length (now out) ⌝ }
-    ensures answer { λ r. ⌜ r ≡ callSaid progress (calledBy calling) (inputOf calling (now (script .entry))) (usedBy calling) (now (memory .entry)) (now (map .entry)) (roomOf calling) ⌝ }
-    ensures memory { λ _. ⌜ now (memory .exit) ≡ memoryLent progress (calledBy calling) (inputOf calling (now (script .entry))) (now (memory .entry)) (now (map .entry)) ⌝ }
-    ensures map { λ _. ⌜ now (map .exit) ≡ mapLent progress (calledBy calling) (inputOf calling (now (script .entry))) (now (memory .entry)) (now (map .entry)) ⌝ }
-    ensures text { λ r. ⌜ Wrote (now (out .entry)) (now (out .exit)) 0 (r .wrote) (callText progress (calledBy calling) (inputOf calling (now (script .entry))) (now (memory .entry)) (now (map .entry)) (roomOf calling)) ⌝ }
+) -> Left
+    ensures record { λ r. ⌜ r .card ≡ stepLent card lent (calledBy calling) (inputOf calling (now (script .entry))) (lentOf (now (memory .entry)) (now (map .entry))) (roomOf calling) .card ⌝ }
+    ensures lent { λ _. ⌜ lentOf (now (memory .exit)) (now (map .exit)) ≡ buffersLent card lent (calledBy calling) (inputOf calling (now (script .entry))) (lentOf (now (memory .entry)) (now (map .entry))) ⌝ }
+    ensures line { λ r. ⌜ Line roomy (now (out .entry)) (now (out .exit)) (r .wrote) (callText count card lent (calledBy calling) (inputOf calling (now (script .entry))) (lentOf (now (memory .entry)) (now (map .entry))) (roomOf calling)) ⌝ }
 {
     let call = called_by(calling);
     let input = input_of(calling, script);
-    let used = used_by(calling);
     let n = room_of(calling);
     let mut space = space();
     call_into(
-        progress,
+        count,
+        card,
+        lent,
         call,
         input,
-        used,
         memory,
         map,
         &mut space[0..n],

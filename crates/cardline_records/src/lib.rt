@@ -10,13 +10,11 @@
 // Offers: `Progress`, `fresh`; `Said`, `carry_out`; `cut`.
 mod calls;
 mod carry;
-mod lines;
-mod looks;
 mod make;
 mod results;
-mod wires;
 
 use card_record::Card;
+use cardline_looks::ROOMY;
 use cardline_script::Sizes;
 use carry::obey;
 use playing::Then;
@@ -25,9 +23,10 @@ use text::lines::plain;
 ghost use mathlib.Core.Path.{_≡_};
 ghost use mathlib.Core.List.{_++_};
 ghost use lib.ListN.{length, drop};
-ghost use Rattle.cardline_records.specs.Record.{saidOf, memoryAfter, mapAfter, textOf};
+ghost use Rattle.cardline_records.specs.Record.{saidOf, buffersAfter, textOf};
 ghost use Rattle.cardline_records.specs.Progress.{freshProgress};
 ghost use Rattle.cardline_records.specs.Transcript.{cutText};
+ghost use Rattle.store.specs.Lent.{lentOf};
 ghost use Rattle.text.specs.Writing.{Put};
 
 // What is kept from record to record: the card, if one was made; the sizes of its own memory and
@@ -53,11 +52,8 @@ pub struct Said {
 pub fn fresh() -> Progress
     ensures answer { λ r. ⌜ r ≡ freshProgress ⌝ }
 {
-    let zeros = [0u8; 16];
-    let made = card_record::make(zeros, zeros, 0, b"", b"", b"");
-    let card = made.card;
     Progress {
-        card,
+        card: card_record::refused_make(),
         made: false,
         own: Sizes { memory: 0, map: 0 },
         lent: Sizes { memory: 0, map: 0 },
@@ -73,12 +69,11 @@ pub fn carry_out(
     map: &mut [u8],
     out: &mut [u8],
 ) -> Said
-    ensures answer { λ r. ⌜ r ≡ saidOf progress (now (script .entry)) (now (memory .entry)) (now (map .entry)) (length (now (out .entry))) ⌝ }
-    ensures memory { λ _. ⌜ now (memory .exit) ≡ memoryAfter progress (now (script .entry)) (now (memory .entry)) (now (map .entry)) (length (now (out .entry))) ⌝ }
-    ensures map { λ _. ⌜ now (map .exit) ≡ mapAfter progress (now (script .entry)) (now (memory .entry)) (now (map .entry)) (length (now (out .entry))) ⌝ }
-    ensures text { λ r. ⌜ now (out .exit) ≡ textOf progress (now (script .entry)) (now (memory .entry)) (now (map .entry)) (length (now (out .entry))) ++ drop (r .wrote) (now (out .entry)) ⌝ }
+    ensures answer { λ r. ⌜ r ≡ saidOf progress (now (script .entry)) (lentOf (now (memory .entry)) (now (map .entry))) (length (now (out .entry))) ⌝ }
+    ensures lent { λ _. ⌜ lentOf (now (memory .exit)) (now (map .exit)) ≡ buffersAfter progress (now (script .entry)) (lentOf (now (memory .entry)) (now (map .entry))) (length (now (out .entry))) ⌝ }
+    ensures text { λ r. ⌜ now (out .exit) ≡ textOf progress (now (script .entry)) (lentOf (now (memory .entry)) (now (map .entry))) (length (now (out .entry))) ++ drop (r .wrote) (now (out .entry)) ⌝ }
 {
-    if out.len() < 131136 {
+    if out.len() < ROOMY {
         return left_alone(progress, Then::NoRoom);
     }
     let asked = cardline_script::read(progress.made, script);

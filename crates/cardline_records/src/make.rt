@@ -17,10 +17,11 @@ use text::lines::plain;
 use text::lines::refused_by;
 use text::parts::part;
 ghost use mathlib.Core.Path.{_≡_};
-ghost use Prim.Native.Nat.{_≤_};
 ghost use lib.ListN.{length};
-ghost use Rattle.cardline_records.specs.Makes.{memoryFilled, memoryMade, mapMade, registerAt, madeFrom, cardMade, madeProgress, makeText, makeSaid};
-ghost use Rattle.text.specs.Writing.{Wrote};
+ghost use Rattle.cardline_looks.specs.Lines.{roomy};
+ghost use Rattle.cardline_records.specs.Makes.{memoryFilled, buffersMade, registerAt, madeFrom, cardMade, madeProgress, makeText, makeSaid};
+ghost use Rattle.store.specs.Lent.{lentOf, seenOf};
+ghost use Rattle.text.specs.Writing.{Line};
 
 // The first bytes of a memory, as far as it has them, made one value.
 fn fill_front(n: usize, value: u8, memory: &mut [u8])
@@ -42,7 +43,7 @@ fn register(script: &[u8], at: usize) -> [u8; 16]
 
 // The card of a record, lent so much of a memory and this map.
 fn made_of(making: Making, script: &[u8], memory: &[u8], map: &[u8]) -> Made
-    ensures { λ r. ⌜ r ≡ madeFrom making (now (script .entry)) (length (now (memory .entry))) (now (map .entry)) ⌝ }
+    ensures { λ r. ⌜ r ≡ madeFrom making (now (script .entry)) (seenOf (length (now (memory .entry))) (now (map .entry))) ⌝ }
 {
     let at = making.map as usize;
     let cid = register(script, at + 6);
@@ -54,9 +55,8 @@ fn made_of(making: Making, script: &[u8], memory: &[u8], map: &[u8]) -> Made
 
 // The memory and the map filled, and the card made that is lent them.
 fn make_card(making: Making, script: &[u8], memory: &mut [u8], map: &mut [u8]) -> Made
-    ensures answer { λ r. ⌜ r ≡ cardMade making (now (script .entry)) (now (memory .entry)) (now (map .entry)) ⌝ }
-    ensures memory { λ _. ⌜ now (memory .exit) ≡ memoryMade making (now (memory .entry)) ⌝ }
-    ensures map { λ _. ⌜ now (map .exit) ≡ mapMade making (now (script .entry)) (now (map .entry)) ⌝ }
+    ensures answer { λ r. ⌜ r ≡ cardMade making (now (script .entry)) (lentOf (now (memory .entry)) (now (map .entry))) ⌝ }
+    ensures lent { λ _. ⌜ lentOf (now (memory .exit)) (now (map .exit)) ≡ buffersMade making (now (script .entry)) (lentOf (now (memory .entry)) (now (map .entry))) ⌝ }
 {
     fill_front(making.memory as usize, making.fill, memory);
     let given = part(script, 6, making.map as usize);
@@ -74,14 +74,23 @@ pub fn make(
     map: &mut [u8],
     out: &mut [u8],
 ) -> Said
-    requires { ⌜ 64 ≤ length (now out) ⌝ }
-    ensures answer { λ r. ⌜ r ≡ makeSaid progress making (cardMade making (now (script .entry)) (now (memory .entry)) (now (map .entry)) .card) (cardMade making (now (script .entry)) (now (memory .entry)) (now (map .entry)) .making) ⌝ }
-    ensures memory { λ _. ⌜ now (memory .exit) ≡ memoryMade making (now (memory .entry)) ⌝ }
-    ensures map { λ _. ⌜ now (map .exit) ≡ mapMade making (now (script .entry)) (now (map .entry)) ⌝ }
-    ensures text { λ r. ⌜ Wrote (now (out .entry)) (now (out .exit)) 0 (r .wrote) (makeText (cardMade making (now (script .entry)) (now (memory .entry)) (now (map .entry)) .making)) ⌝ }
+    ensures answer { λ r. ⌜ r ≡ makeSaid progress making (cardMade making (now (script .entry)) (lentOf (now (memory .entry)) (now (map .entry))) .card) (cardMade making (now (script .entry)) (lentOf (now (memory .entry)) (now (map .entry))) .making) (r .wrote) ⌝ }
+    ensures lent { λ _. ⌜ lentOf (now (memory .exit)) (now (map .exit)) ≡ buffersMade making (now (script .entry)) (lentOf (now (memory .entry)) (now (map .entry))) ⌝ }
+    ensures line { λ r. ⌜ Line roomy (now (out .entry)) (now (out .exit)) (r .wrote) (makeText (cardMade making (now (script .entry)) (lentOf (now (memory .entry)) (now (map .entry))) .making)) ⌝ }
 {
     let made = make_card(making, script, memory, map);
-    make_line(progress, making, made, out)
+    let outcome = made.making;
+    let wrote = make_line(outcome, out);
+    make_said(progress, making, made, wrote)
+}
+
+fn make_line(outcome: card_record::Making, out: &mut [u8]) -> usize
+    ensures { λ r. ⌜ Line roomy (now (out .entry)) (now (out .exit)) r (makeText outcome) ⌝ }
+{
+    match outcome {
+        card_record::Making::Done => plain(b"made", out),
+        card_record::Making::Refused(refusal) => refused_by(refusal, out),
+    }
 }
 
 // The progress of a new card.
@@ -101,27 +110,18 @@ fn made_progress(making: Making, card: Card) -> Progress
     }
 }
 
-// What a make leaves, and its line.
-fn make_line(progress: Progress, making: Making, made: Made, out: &mut [u8]) -> Said
-    requires { ⌜ 64 ≤ length (now out) ⌝ }
-    ensures answer { λ r. ⌜ r ≡ makeSaid progress making (made .card) (made .making) ⌝ }
-    ensures text { λ r. ⌜ Wrote (now (out .entry)) (now (out .exit)) 0 (r .wrote) (makeText (made .making)) ⌝ }
+// What a make leaves: a new card, or a script that stops.
+fn make_said(progress: Progress, making: Making, made: Made, wrote: usize) -> Said
+    ensures answer { λ r. ⌜ r ≡ makeSaid progress making (made .card) (made .making) (r .wrote) ⌝ }
+    ensures wrote { λ r. ⌜ r .wrote ≡ wrote ⌝ }
 {
-    let card = made.card;
     let outcome = made.making;
     match outcome {
-        card_record::Making::Done => {
-            let wrote = plain(b"made", out);
-            let next = made_progress(making, card);
-            goes_on(
-                next,
-                making.map as usize + 43 + making.password as usize,
-                wrote,
-            )
-        }
-        card_record::Making::Refused(refusal) => {
-            let wrote = refused_by(refusal, out);
-            ends(progress, wrote)
-        }
+        card_record::Making::Done => goes_on(
+            made_progress(making, made.card),
+            making.map as usize + 43 + making.password as usize,
+            wrote,
+        ),
+        card_record::Making::Refused(_) => ends(progress, wrote),
     }
 }

@@ -11,18 +11,17 @@ use Prim.Native.Nat.{ℕ, _+_, _*_, _≤_, _<_}
 use native.Mathlib.Omega.{arith}
 use borrow.Author.Tests.{leb-true, leb-false, le-leb}
 use lib.Dec.{eqb, leb, eqb·suc-zero}
-use lib.ListN.{length, getD, length-append, List·getD-append}
-use Rattle.base.proofs.Cases.{cases, never, picked, guarded}
+use lib.ListN.{length, length-append, List·getD-append}
+use Rattle.base.proofs.Cases.{cases, never}
 use Rattle.base.specs.Choice.{pick, unless}
-use Rattle.cardline_script.specs.Reading.{byteAt, two, three, four, complete, notTooBig, sized, makingAsked, makeAsked, frameAsked, countedAsked, blockInAsked, blockOutAsked, memoryAsked, lendAsked, pokeAsked, writeFrameAsked, writeBlockAsked, checkAsked, shownAsked, moreAsked, askedOf}
+use Rattle.cardline_script.specs.Reading.{byteAt, two, three, four, complete, makingAsked, makeAsked, frameAsked, countedAsked, blockInAsked, blockOutAsked, memoryAsked, lendAsked, pokeAsked, writeFrameAsked, writeBlockAsked, checkAsked, shownAsked, moreAsked, askedOf}
 use Rattle.cardline_script.specs.Whole.{waits, usedAsked, longestRecord}
 use Rattle.cardline_script.specs.declared.Asked.{Asked}
 use Rattle.cardline_script.specs.declared.Asked.the-variants.{Stop, Go}
-use Rattle.cardline_script.specs.declared.Calling.the-variants.{Frame, BlockIn, BlockOut, WorkDone, PowerOn}
-use Rattle.cardline_script.specs.declared.Going.the-variants.{Call, Look, Wire}
-use Rattle.cardline_script.specs.declared.Looking.the-variants.{Card, Memory, Lend, Poke}
+use Rattle.cardline_script.specs.declared.Calling.the-variants.{WorkDone, PowerOn}
+use Rattle.cardline_script.specs.declared.Going.the-variants.{Call, Look}
+use Rattle.cardline_script.specs.declared.Looking.the-variants.{Card}
 use Rattle.cardline_script.specs.declared.Stop.the-variants.{NoCard, BadKind, TooBig}
-use Rattle.cardline_script.specs.declared.Wiring.the-variants.{Frame as WireFrame, Block, Check}
 
 -- what a slice's type says of its bytes
 abbrev pub Bytes : List ℕ → Type 0

@@ -7,6 +7,7 @@
 --   ended-stops      a stop where nothing is left
 --   low-byte-first   a number read from its low byte on
 --   past-end         the last byte read again behind the end of a script
+--   kind-uncounted   a record's length without its kind
 -- Assumes nothing.
 use mathlib.Core.Bool.{true, false}
 use mathlib.Core.List.{[], _∷_}
@@ -15,9 +16,10 @@ use Prim.Native.Nat.{ℕ}
 use native.Mathlib.Omega.{arith}
 use lib.ListN.{replicate}
 use Rattle.cardline_script.specs.Reading.{byteAt, two, four, frameAsked, countedAsked, shownAsked, moreAsked, askedOf}
+use Rattle.cardline_script.specs.Whole.{usedGoing}
 use Rattle.cardline_script.specs.declared.Asked.the-variants as asked
 use Rattle.cardline_script.specs.declared.Asked.the-variants.{More, Make, Go}
-use Rattle.cardline_script.specs.declared.Calling.the-variants.{Frame}
+use Rattle.cardline_script.specs.declared.Calling.the-variants.{Frame, WorkDone}
 use Rattle.cardline_script.specs.declared.Going.the-variants.{Call}
 use Rattle.cardline_script.specs.declared.Making.{Making}
 use Rattle.cardline_script.specs.declared.Stop.{Stop}
@@ -48,3 +50,6 @@ low-byte-first e = omega arith
 
 past-end : byteAt (1 ∷ 2 ∷ []) 2 ≡ 2 → ⊥
 past-end e = omega arith
+
+kind-uncounted : usedGoing (Call WorkDone) ≡ 0 → ⊥
+kind-uncounted e = omega arith

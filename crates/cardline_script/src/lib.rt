@@ -1,9 +1,10 @@
 // A script of `cardline`: a row of records, each a byte of kind and a body. What the record at the
 // front of what is left of a script asks for, and whether all of it is there.
 //
-// Offers: `Sizes`, `Stop`, `Making`, `Calling`, `Looking`, `Wiring`, `Going`, `Asked`; `read`; and
-// `numbers::four`.
+// Offers: `Sizes`, `Stop`, `Making`, `Calling`, `Looking`, `Wiring`, `Going`, `Asked`; `read`, `used`;
+// and `numbers::four`.
 mod kinds;
+mod lengths;
 pub mod numbers;
 
 use kinds::block_out_asked;
@@ -15,6 +16,7 @@ use kinds::memory_asked;
 use kinds::poke_asked;
 use kinds::write_block_asked;
 use kinds::write_frame_asked;
+pub use lengths::used;
 use numbers::byte;
 use numbers::two;
 ghost use mathlib.Core.Path.{_≡_};

@@ -18,7 +18,7 @@ use Rattle.base.specs.declared.Refusal.{Refusal}
 use Rattle.base.specs.declared.Written.{Written}
 use Rattle.base.specs.declared.Written.the-variants.{Bytes, Refused as NotWritten}
 use Rattle.command.specs.Answers.{responseOf, sentOf, answered}
-use Rattle.command.specs.Command.{receivedOf, concluded, takenOf, movedBy, commandOf}
+use Rattle.command.specs.Command.{receivedOf, takenOf, movedBy, commandOf}
 use Rattle.command.specs.declared.Met.{Met}
 use Rattle.command.specs.declared.Response.{Response}
 use Rattle.command.specs.declared.Response.the-variants.{Nothing as NoResponse, R1, R2, R3}
@@ -34,9 +34,6 @@ use Rattle.card_record.specs.declared.Link.{Link}
 use Rattle.card_record.specs.declared.Registers.{Registers}
 use Rattle.states.specs.States.{columnOf}
 use Rattle.states.specs.declared.Column.{Column}
-use Rattle.status.specs.declared.Fault.{Fault}
-use Rattle.status.specs.declared.Fault.the-variants.{None, Bit}
-use Rattle.tags.specs.declared.Tags.{Tags}
 use Rattle.wire.specs.Frames.{indexed}
 use Rattle.wire.specs.Responses.{r1Frame, r2Frame, r3Frame}
 use Rattle.command.specs.Sending.{sentBytes, sentWritten, Sendable}
@@ -49,17 +46,9 @@ sent-sendable R2 index status h = cases (eqb index 9) (λ (t : eqb index 9 ≡ t
 sent-sendable R3 index status h = tt
 
 module _ (link : Link) (met : Met) (asked : Received) (row : Row) (h : asked .index ≤ 63) where
-  concluded-sendable : (column : Column) (tags : Tags) (fault : Fault) → Sendable (concluded link met asked row column tags fault .sent)
-  unfolding concluded answered
-  concluded-sendable column tags None = sent-sendable (responseOf row) (asked .index) _ h
-  concluded-sendable column tags (Bit bit) = sent-sendable (responseOf row) (asked .index) _ h
-
   taken-sendable : (column : Column) → Sendable (takenOf link met asked row column .sent)
-  unfolding takenOf
-  taken-sendable column =
-      cases (eqb (asked .index) 0)
-      (λ (t : eqb (asked .index) 0 ≡ true). rw t tt)
-      (λ (t : eqb (asked .index) 0 ≡ false). rw t (concluded-sendable column _ _))
+  unfolding takenOf answered
+  taken-sendable column = sent-sendable (responseOf row) (asked .index) _ h
 
   moved-sendable : (move : Move) → Sendable (movedBy link met asked row move .sent)
   moved-sendable Ignored = tt

@@ -6,10 +6,9 @@ use mathlib.Core.Path.{_≡_, refl, ap, _∙_}
 use mathlib.Core.Bool.{Bool, false}
 use Prim.Native.Nat.{ℕ}
 use lib.Dec.{eqb}
-use Rattle.base.specs.Choice.{pick}
 use Rattle.command.specs.Answers.{silent}
-use Rattle.command.specs.Command.{metBy, receivedOf, concluded, takenOf, movedBy, commandOf}
-use Rattle.command.specs.Obey.{judgedOf}
+use Rattle.command.specs.Command.{metBy, receivedOf, takenOf, movedBy, commandOf}
+use Rattle.command.specs.Obey.{actedOf}
 use Rattle.command.specs.declared.Commanded.{Commanded}
 use Rattle.command.specs.declared.Met.{Met}
 use Rattle.moves.specs.Moves.{moveOf}
@@ -19,16 +18,11 @@ use Rattle.moves.specs.declared.Move.{Move}
 use Rattle.moves.specs.declared.Move.the-variants.{Ignored, Silent, Illegal, To}
 use Rattle.moves.specs.declared.Row.{Row}
 use Rattle.moves.specs.declared.Row.the-variants.{AllSendCidLost}
-use Rattle.card_record.specs.Power.{freshLink}
 use Rattle.card_record.specs.declared.Card.{Card}
 use Rattle.card_record.specs.declared.Link.{Link}
 use Rattle.states.specs.States.{columnOf}
 use Rattle.states.specs.declared.Column.{Column}
 use Rattle.states.specs.declared.Column.the-variants.{Idle, Ready, Ident, Stby, Tran, Data, Rcv, Prg, Dis, Ina}
-use Rattle.status.specs.declared.Fault.{Fault}
-use Rattle.status.specs.declared.Fault.the-variants.{None, Bit}
-use Rattle.tags.specs.declared.Tagging.{Tagging}
-use Rattle.tags.specs.declared.Tags.{Tags}
 
 -- ---- every command but CMD2
 module _ (card : Card) (v w : Bool) (index argument : ℕ) where
@@ -39,24 +33,15 @@ module _ (card : Card) (v w : Bool) (index argument : ℕ) where
   unfolding rowOf
   row-same t = simp t
 
-  concluded-same : (row : Row) (column : Column) (tags : Tags) (fault : Fault)
-      → concluded (card .link) (metBy card v) (askedBy v) row column tags fault
-      ≡ concluded (card .link) (metBy card w) (askedBy w) row column tags fault
-  unfolding concluded
-  concluded-same row column tags None = refl
-  concluded-same row column tags (Bit bit) = refl
-
   abbrev moved : Bool → Row → Move → Commanded
   moved wins = movedBy (card .link) (metBy card wins) (askedBy wins)
 
   moved-same : (row : Row) (move : Move) → moved v row move ≡ moved w row move
-  unfolding takenOf
+  unfolding takenOf actedOf
   moved-same row Ignored = refl
   moved-same row Silent = refl
   moved-same row Illegal = refl
-  moved-same row (To column) =
-      let judged : Tagging = judgedOf (card .link) (card .registers .groups) (card .lock .locked) index argument in
-      ap (λ (x : Commanded). pick (eqb index 0) (silent freshLink) x) (concluded-same row column (judged .tags) (judged .error))
+  moved-same row (To column) = refl
 
   pub any-wins : eqb index 2 ≡ false
       → commandOf (card .link) (metBy card v) index argument ≡ commandOf (card .link) (metBy card w) index argument

@@ -11,6 +11,11 @@
 --   long-block-taken         CMD16 of 2,049 is taken
 --   status-drops-tags        CMD13 drops tags
 --   reset-told-by-cmd0       CMD0 leaves bit 13 for the tags that it drops
+-- Of what a taken command does, before any answer:
+--   act-clears-bits          CMD17 clears the bits that wait
+--   act-moves-with-fault     CMD17 past the end goes to data
+--   act-tells-in-link        CMD17 that drops tags leaves 13 in the link, where the answer's mode is to clear
+--   status-tells-reset       CMD13 sets 13
 -- Of a frame with a wrong CRC7:
 --   damage-told-inactive     bit 23 is set in Inactive
 --   damage-drops-tags        it drops tags
@@ -35,6 +40,11 @@
 -- Of the tags:
 --   status-drops             CMD13 drops tags
 --   read-keeps               CMD17 keeps tags
+-- Of a card left alone:
+--   illegal-left-alone       CMD17 in data, which sets bit 22, leaves it alone
+--   reset-left-alone         CMD0 in idle leaves it alone
+--   winner-left-alone        CMD2 leaves a winner alone
+--   loser-not-left           CMD2 does not leave a loser alone
 -- Assumes nothing.
 use mathlib.Core.Bool.{Bool, true, false}
 use mathlib.Core.Path.{_≡_}
@@ -46,10 +56,10 @@ use Rattle.moves.specs.Moves.{moveOf}
 use Rattle.moves.specs.Rows.{rowOf, transferRow}
 use Rattle.card_record.specs.Power.{freshLink}
 use Rattle.card_record.specs.declared.Link.{Link}
-use Rattle.states.specs.declared.Column.the-variants.{Stby as ToStby, Data as ToData}
+use Rattle.states.specs.declared.Column.the-variants.{Stby as ToStby, Tran as ToTran, Data as ToData}
 use Rattle.states.specs.declared.Outgoing.the-variants.{One, Many}
 use Rattle.states.specs.declared.State.{State}
-use Rattle.states.specs.declared.State.the-variants.{Ident, Stby, Tran, Data, Ina}
+use Rattle.states.specs.declared.State.the-variants.{Idle, Ready, Ident, Stby, Tran, Data, Ina}
 use Rattle.status.specs.ErrorBits.{errorBit}
 use Rattle.status.specs.Status.{wordOf}
 use Rattle.status.specs.declared.Fault.the-variants.{None, Bit}
@@ -59,8 +69,8 @@ use Rattle.tags.specs.declared.Range.the-variants.{Nothing, Start}
 use Rattle.tags.specs.declared.Tags.{Tags}
 use Rattle.command.specs.Answers.{responseOf, answered}
 use Rattle.command.specs.Arguments.{argumentFault}
-use Rattle.command.specs.Command.{damagedLink, resetTold, concluded, takenOf, commandOf}
-use Rattle.command.specs.Obey.{dropsTags, passesLock, taggingOf, judgedOf, awaitedBy, obeyed, changeOf}
+use Rattle.command.specs.Command.{damagedLink, takenOf, commandOf, leavesAlone, decidedOf}
+use Rattle.command.specs.Obey.{dropsTags, passesLock, taggingOf, judgedOf, resetTold, awaitedBy, obeyed, changeOf, afterChecks, actedOf}
 use Rattle.command.specs.declared.Change.the-variants.{Protect, Erase}
 use Rattle.command.specs.declared.Met.{Met}
 use Rattle.command.specs.declared.Sent.the-variants.{Status}
@@ -78,19 +88,19 @@ abbrev started : Tags
 started = tagsOf (Start Sectors 1)
 
 state-after-in-r1 : commandOf (card Tran 0 noTags) (met false) 17 0 .sent ≡ Status 17 0x00000B00 → ⊥
-unfolding commandOf rowOf transferRow moveOf takenOf judgedOf taggingOf argumentFault concluded resetTold responseOf answered obeyed awaitedBy changeOf wordOf
+unfolding commandOf rowOf transferRow moveOf takenOf actedOf judgedOf taggingOf argumentFault afterChecks resetTold responseOf answered obeyed awaitedBy changeOf wordOf
 state-after-in-r1 e = let z : _≡_ {A = ℕ} 0x900 0xB00 = cc in omega arith
 
 bits-kept-after-r1 : commandOf (card Stby 0x80400000 noTags) (met false) 13 0x00010000 .link .errors .bits ≡ 0x80400000 → ⊥
-unfolding commandOf rowOf moveOf takenOf judgedOf taggingOf argumentFault concluded resetTold responseOf answered obeyed awaitedBy changeOf wordOf
+unfolding commandOf rowOf moveOf takenOf actedOf judgedOf taggingOf argumentFault afterChecks resetTold responseOf answered obeyed awaitedBy changeOf wordOf
 bits-kept-after-r1 e = omega arith
 
 r2-clears-every-bit : commandOf (card Stby 0x80C00000 noTags) (met false) 9 0x00010000 .link .errors .bits ≡ 0 → ⊥
-unfolding commandOf rowOf moveOf takenOf judgedOf taggingOf argumentFault concluded resetTold responseOf answered obeyed awaitedBy changeOf wordOf
+unfolding commandOf rowOf moveOf takenOf actedOf judgedOf taggingOf argumentFault afterChecks resetTold responseOf answered obeyed awaitedBy changeOf wordOf
 r2-clears-every-bit e = omega arith
 
 r2-clears-none : commandOf (card Stby 0x80C00000 noTags) (met false) 9 0x00010000 .link .errors .bits ≡ 0x80C00000 → ⊥
-unfolding commandOf rowOf moveOf takenOf judgedOf taggingOf argumentFault concluded resetTold responseOf answered obeyed awaitedBy changeOf wordOf
+unfolding commandOf rowOf moveOf takenOf actedOf judgedOf taggingOf argumentFault afterChecks resetTold responseOf answered obeyed awaitedBy changeOf wordOf
 r2-clears-none e = omega arith
 
 illegal-in-stby : commandOf (card Stby 0 noTags) (met false) 17 0 .link .errors .bits ≡ 0x00400000 → ⊥
@@ -98,24 +108,40 @@ unfolding commandOf rowOf transferRow moveOf
 illegal-in-stby e = omega arith
 
 locked-card-reads : commandOf (card Tran 0 noTags) (met true) 17 0 .link .state ≡ Data (One 0) → ⊥
-unfolding commandOf rowOf transferRow moveOf classOf takenOf judgedOf concluded resetTold responseOf answered wordOf
+unfolding commandOf rowOf transferRow moveOf classOf takenOf actedOf judgedOf afterChecks resetTold responseOf answered wordOf
 locked-card-reads e = clash cc
 
 lock-request-locked-out : commandOf (card Tran 0 noTags) (met true) 42 0 .link .state ≡ Tran → ⊥
-unfolding commandOf rowOf transferRow moveOf classOf takenOf judgedOf taggingOf argumentFault concluded resetTold responseOf answered obeyed awaitedBy changeOf wordOf
+unfolding commandOf rowOf transferRow moveOf classOf takenOf actedOf judgedOf taggingOf argumentFault afterChecks resetTold responseOf answered obeyed awaitedBy changeOf wordOf
 lock-request-locked-out e = clash cc
 
 long-block-taken : commandOf (card Tran 0 noTags) (met false) 16 2049 .link .length ≡ 2049 → ⊥
-unfolding commandOf rowOf transferRow moveOf takenOf judgedOf taggingOf argumentFault concluded resetTold responseOf answered wordOf
+unfolding commandOf rowOf transferRow moveOf takenOf actedOf judgedOf taggingOf argumentFault afterChecks resetTold responseOf answered wordOf
 long-block-taken e = omega arith
 
 status-drops-tags : commandOf (card Tran 0 started) (met false) 13 0x00010000 .link .tags .range ≡ Nothing → ⊥
-unfolding commandOf rowOf moveOf takenOf judgedOf taggingOf argumentFault concluded resetTold responseOf answered obeyed awaitedBy changeOf wordOf
+unfolding commandOf rowOf moveOf takenOf actedOf judgedOf taggingOf argumentFault afterChecks resetTold responseOf answered obeyed awaitedBy changeOf wordOf
 status-drops-tags e = clash cc
 
 reset-told-by-cmd0 : commandOf (card Tran 0 started) (met false) 0 0 .link .errors .bits ≡ 0x00002000 → ⊥
-unfolding commandOf rowOf moveOf takenOf freshLink
+unfolding commandOf rowOf moveOf takenOf actedOf freshLink responseOf answered wordOf
 reset-told-by-cmd0 e = omega arith
+
+act-clears-bits : actedOf (card Tran 0x80400000 noTags) (met false) 17 0 ToData .errors .bits ≡ 0 → ⊥
+unfolding actedOf judgedOf taggingOf argumentFault afterChecks resetTold
+act-clears-bits e = omega arith
+
+act-moves-with-fault : actedOf (card Tran 0 noTags) (met false) 17 8192 ToData .link .state ≡ Data (One 8192) → ⊥
+unfolding actedOf judgedOf taggingOf argumentFault afterChecks
+act-moves-with-fault e = clash cc
+
+act-tells-in-link : actedOf (card Tran 0 started) (met false) 17 0 ToData .link .errors .bits ≡ 0x00002000 → ⊥
+unfolding actedOf judgedOf taggingOf argumentFault afterChecks obeyed
+act-tells-in-link e = omega arith
+
+status-tells-reset : actedOf (card Tran 0 started) (met false) 13 0x00010000 ToTran .errors .bits ≡ 0x00002000 → ⊥
+unfolding actedOf judgedOf taggingOf afterChecks resetTold
+status-tells-reset e = omega arith
 
 damage-told-inactive : damagedLink (card Ina 0 noTags) .errors .bits ≡ 0x00800000 → ⊥
 unfolding damagedLink
@@ -185,3 +211,19 @@ status-drops e = clash cc
 
 read-keeps : dropsTags 17 ≡ false → ⊥
 read-keeps e = clash cc
+
+illegal-left-alone : leavesAlone (decidedOf (card (Data (One 0)) 0 noTags) (met false) 17 0) ≡ true → ⊥
+unfolding rowOf transferRow moveOf
+illegal-left-alone e = clash cc
+
+reset-left-alone : leavesAlone (decidedOf (card Idle 0 noTags) (met false) 0 0) ≡ true → ⊥
+unfolding rowOf moveOf
+reset-left-alone e = clash cc
+
+winner-left-alone : leavesAlone (decidedOf (card Ready 0 noTags) (met false) 2 0) ≡ true → ⊥
+unfolding rowOf moveOf
+winner-left-alone e = clash cc
+
+loser-not-left : leavesAlone (decidedOf (card Ready 0 noTags) (record { ocr = 0x00FF8000; groups = 1; locked = false; wins = false }) 2 0) ≡ false → ⊥
+unfolding rowOf moveOf
+loser-not-left e = clash cc

@@ -1,4 +1,4 @@
--- Document 01, "How a card takes a frame": what a taken command answers, and which error bits it clears.
+-- Document 01, "How a card takes a frame": what a taken command answers in MMC mode, and which error bits it clears.
 -- Assumes nothing.
 use mathlib.Core.Bool.{Bool}
 use mathlib.Core.List.{List, [], _∷_}
@@ -13,7 +13,7 @@ use Rattle.card_record.specs.declared.Link.{Link}
 use Rattle.states.specs.declared.Column.{Column}
 use Rattle.status.specs.Status.{noErrors, commandBitsCleared, wordOf}
 use Rattle.status.specs.declared.Errors.{Errors}
-use Rattle.command.specs.declared.Change.{Change}
+use Rattle.command.specs.declared.Acted.{Acted}
 use Rattle.command.specs.declared.Change.the-variants.{Nothing as Unchanged}
 use Rattle.command.specs.declared.Commanded.{Commanded}
 use Rattle.command.specs.declared.Response.{Response}
@@ -56,7 +56,11 @@ leftOf R3 errors = commandBitsCleared errors
 abbrev pub silent : Link → Commanded
 silent link = record { link = link; sent = Nothing; change = Unchanged }
 
--- the answer of a taken command with these error bits, from "the state on reception"
-unfoldable pub answered : Link → Errors → Response → ℕ → Bool → Column → Change → Commanded
-answered link errors response index locked on change =
-    record { link = withErrors link (leftOf response errors); sent = sentOf response index (wordOf errors locked on); change = change }
+-- the answer to what a taken command did, from "the state on reception"
+unfoldable pub answered : Acted → Response → ℕ → Bool → Column → Commanded
+answered acted response index locked on =
+    record {
+      link = withErrors (acted .link) (leftOf response (acted .errors));
+      sent = sentOf response index (wordOf (acted .errors) locked on);
+      change = acted .change;
+    }

@@ -8,7 +8,8 @@ use Rattle.base.specs.Choice.{pick, unless}
 use Rattle.base.specs.Sizes.{protectionGroupSize}
 use Rattle.moves.specs.Classes.{classOf, classNumber}
 use Rattle.moves.specs.Indices.{among}
-use Rattle.card_record.specs.Record.{sizeOf, lengthRead}
+use Rattle.card_record.specs.Power.{freshLink}
+use Rattle.card_record.specs.Record.{sizeOf, lengthRead, withTags}
 use Rattle.card_record.specs.declared.Link.{Link}
 use Rattle.states.specs.declared.Column.{Column}
 use Rattle.states.specs.declared.Column.the-variants.{Idle as ToIdle, Ready as ToReady, Ident as ToIdent, Stby as ToStby, Tran as ToTran, Data as ToData, Rcv as ToRcv, Prg as ToPrg, Dis as ToDis, Ina as ToIna}
@@ -17,14 +18,19 @@ use Rattle.states.specs.declared.Outgoing.the-variants.{One as OneOut, Many as 
 use Rattle.states.specs.declared.State.{State}
 use Rattle.states.specs.declared.State.the-variants.{Idle, Ready, Ident, Stby, Tran, Data, Rcv, Prg, Dis, Ina}
 use Rattle.status.specs.ErrorBits.{errorBit}
-use Rattle.status.specs.declared.Fault.the-variants.{None}
-use Rattle.tags.specs.Tagging.{noTags, isComplete, tagFailed, startTagged, endTagged}
+use Rattle.status.specs.Status.{noErrors, withBit}
+use Rattle.status.specs.declared.Errors.{Errors}
+use Rattle.status.specs.declared.Fault.{Fault}
+use Rattle.status.specs.declared.Fault.the-variants.{None, Bit}
+use Rattle.tags.specs.Tagging.{noTags, anyOf, isComplete, tagFailed, startTagged, endTagged}
 use Rattle.tags.specs.declared.Kind.the-variants.{Sectors, Groups}
 use Rattle.tags.specs.declared.Tagging.{Tagging}
 use Rattle.tags.specs.declared.Tags.{Tags}
 use Rattle.command.specs.Arguments.{argumentFault}
+use Rattle.command.specs.declared.Acted.{Acted}
 use Rattle.command.specs.declared.Change.{Change}
 use Rattle.command.specs.declared.Change.the-variants.{Nothing, Protect, Erase}
+use Rattle.command.specs.declared.Met.{Met}
 
 -- "Any other taken command but CMD0 and CMD13 drops existing tags and sets bit 13": other than 32, 33, 35, 36 and 38
 abbrev pub dropsTags : ℕ → Bool
@@ -58,6 +64,11 @@ taggingOf link size index argument =
 unfoldable pub judgedOf : Link → ℕ → Bool → ℕ → ℕ → Tagging
 judgedOf link groups locked index argument =
     unless (passesLock locked index) (tagFailed (errorBit 24)) (taggingOf link (sizeOf groups) index argument)
+
+-- the pending error bits, with 13 where the command "drops existing tags and sets bit 13"
+unfoldable pub resetTold : Link → ℕ → Errors
+resetTold link index =
+    unless (dropsTags index) (link .errors) (unless (anyOf (link .tags)) (link .errors) (withBit (link .errors) (errorBit 13)))
 
 -- the state that a column of the table stands for: "Data states carry what they wait for", so there it is the one that carries the work
 abbrev pub stateAt : Column → State → State
@@ -108,3 +119,22 @@ changeOf index argument =
     pick (among index (28 ∷ [])) (Protect (argument / protectionGroupSize) true)
     (pick (among index (29 ∷ [])) (Protect (argument / protectionGroupSize) false)
     (pick (among index (38 ∷ [])) Erase Nothing))
+
+-- "CMD0 .. does the same" as power-on "but keeps the lock flag": no error bit is left
+abbrev pub goneIdle : Acted
+goneIdle = record { link = freshLink; errors = noErrors; change = Nothing }
+
+-- after checks 5 and 6. With an error: "the bit, no move"; without: the command is obeyed
+unfoldable pub afterChecks : Link → ℕ → ℕ → Column → Tags → Fault → Acted
+afterChecks link index argument column tags None =
+    record { link = obeyed link index argument column tags; errors = resetTold link index; change = changeOf index argument }
+afterChecks link index argument column tags (Bit bit) =
+    record { link = withTags link tags; errors = withBit (resetTold link index) bit; change = Nothing }
+
+-- what a taken command does at a card, which the table leads to a column. `errors` are "pending bits and those its command sets at once", of
+-- which an answer reports and clears as its mode has it: the link keeps the error bits that it had
+unfoldable pub actedOf : Link → Met → ℕ → ℕ → Column → Acted
+actedOf link met index argument column =
+    pick (eqb index 0) goneIdle
+    (afterChecks link index argument column (judgedOf link (met .groups) (met .locked) index argument .tags)
+    (judgedOf link (met .groups) (met .locked) index argument .error))

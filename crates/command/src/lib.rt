@@ -1,9 +1,11 @@
 // How a card takes a command (document 01, "How a card takes a frame" and "Reading, writing,
 // erasing, locking"): a command is an index and an argument, however it came in. What a command
-// does to a card stands in obey.rt; which commands are taken, what they answer and which error
-// bits they clear, as MMC mode has it, stands here. No call has a `requires`.
+// does to a card stands in obey.rt, whatever the mode; which commands are taken, what they answer
+// and which error bits they clear, as MMC mode has it, stands here. No call has a `requires`.
 //
-// Offers: `Met`, `Sent`, `Change`, `Commanded`, `command`; `damaged`; `write_sent`.
+// Offers: `Met`, `Change`, `Acted`, `act`; `Sent`, `Commanded`, `command`; its two parts,
+// `Decided`, `decide`, `leaves_alone` and `follow`; `damaged`; `write_sent`.
+mod arguments;
 mod obey;
 mod sending;
 
@@ -11,15 +13,14 @@ use card_record::Link;
 use moves::Move;
 use moves::Received;
 use moves::Row;
+pub use obey::act;
 pub use sending::write_sent;
 use states::Column;
 use status::ErrorBit;
 use status::Errors;
-use status::Fault;
-use tags::Tagging;
 ghost use mathlib.Core.Path.{_≡_};
 ghost use Rattle.command.specs.Answers.{responseOf, registerSent, sentOf, leftOf, answered, silent};
-ghost use Rattle.command.specs.Command.{damagedLink, resetTold, concluded, takenOf, commandOf};
+ghost use Rattle.command.specs.Command.{receivedOf, damagedLink, takenOf, movedBy, commandOf, decidedOf, leavesAlone};
 
 // What a command meets at a card beside the link: the OCR, the size in protection groups, the lock
 // flag, and whether the card would win the line in CMD2.
@@ -45,6 +46,20 @@ pub enum Change {
     Nothing,
     Protect { group: u32, on: bool },
     Erase,
+}
+
+// What a taken command does, before any answer: the next link, its error bits as they were; the
+// pending error bits with those that the command sets at once; what is to change in what is lent.
+pub struct Acted {
+    pub link: Link,
+    pub errors: Errors,
+    pub change: Change,
+}
+
+// The row of the table of moves that a command falls in at a card, and where it leads from there.
+pub struct Decided {
+    pub row: Row,
+    pub next: Move,
 }
 
 // What a command leaves: the link, what is sent, and what is to change in what is lent.
@@ -148,31 +163,13 @@ pub fn damaged(link: Link) -> Link
     }
 }
 
-// The error bits with 13 where the command drops tags.
-fn reset_told(link: Link, index: u8) -> Errors
-    ensures { λ r. ⌜ r ≡ resetTold link index ⌝ }
-{
-    if !obey::drops_tags(index) {
-        return link.errors;
-    }
-    if !tags::any(link.tags) {
-        return link.errors;
-    }
-    status::set(link.errors, ErrorBit::EraseReset)
-}
-
 // What a taken command answers, from the state in which it came, and what it leaves.
-fn answer(
-    link: Link,
-    errors: Errors,
-    response: Response,
-    index: u8,
-    locked: bool,
-    on: Column,
-    change: Change,
-) -> Commanded
-    ensures { λ r. ⌜ r ≡ answered link errors response index locked on change ⌝ }
+fn answer(acted: Acted, response: Response, index: u8, locked: bool, on: Column) -> Commanded
+    ensures { λ r. ⌜ r ≡ answered acted response index locked on ⌝ }
 {
+    let errors = acted.errors;
+    let link = acted.link;
+    let change = acted.change;
     let status = status::word(errors, locked, on);
     Commanded {
         link: Link {
@@ -184,65 +181,64 @@ fn answer(
     }
 }
 
-// A taken command after checks 5 and 6: with a fault it only reports, else it is obeyed.
-fn conclude(
-    link: Link,
-    met: Met,
-    asked: Received,
-    row: Row,
-    column: Column,
-    judged: Tagging,
-) -> Commanded
-    ensures { λ r. ⌜ r ≡ concluded link met asked row column (judged .tags) (judged .error) ⌝ }
-{
-    let index = asked.index;
-    let argument = asked.argument;
-    let locked = met.locked;
-    let state = link.state;
-    let on = states::column_of(state);
-    let response = response_of(row);
-    let errors = reset_told(link, index);
-    let tags = judged.tags;
-    let fault = judged.error;
-    match fault {
-        Fault::None => {
-            let next = obey::obey(link, index, argument, column, tags);
-            let change = obey::change_of(index, argument);
-            answer(next, errors, response, index, locked, on, change)
-        }
-        Fault::Bit(bit) => {
-            let told = status::set(errors, bit);
-            let next = Link { tags, ..link };
-            answer(next, told, response, index, locked, on, Change::Nothing)
-        }
-    }
-}
-
 // A command that has a legal move to a column.
 fn take(link: Link, met: Met, asked: Received, row: Row, column: Column) -> Commanded
     ensures { λ r. ⌜ r ≡ takenOf link met asked row column ⌝ }
 {
-    if asked.index == 0 {
-        return silent(card_record::fresh());
-    }
-    let judged = obey::judge(link, met.groups, met.locked, asked.index, asked.argument);
-    conclude(link, met, asked, row, column, judged)
+    let index = asked.index;
+    let locked = met.locked;
+    let state = link.state;
+    let on = states::column_of(state);
+    let response = response_of(row);
+    let acted = obey::act(link, met, index, asked.argument, column);
+    answer(acted, response, index, locked, on)
 }
 
-// A command at a card, from check 1 on.
-pub fn command(link: Link, met: Met, index: u8, argument: u32) -> Commanded
-    ensures answer { λ r. ⌜ r ≡ commandOf link met index argument ⌝ }
+// A command as it meets a card.
+fn received(link: Link, met: Met, index: u8, argument: u32) -> Received
+    ensures { λ r. ⌜ r ≡ receivedOf link met index argument ⌝ }
 {
-    let asked = Received {
+    Received {
         index,
         argument,
         address: link.address,
         ocr: met.ocr,
         wins: met.wins,
-    };
+    }
+}
+
+// What checks 1, 3 and 4 find, before anything is done. A card that this leaves alone need not be
+// taken out of its place.
+pub fn decide(link: Link, met: Met, index: u8, argument: u32) -> Decided
+    ensures answer { λ r. ⌜ r ≡ decidedOf link met index argument ⌝ }
+{
+    let asked = received(link, met, index, argument);
     let row = moves::row_of(asked);
     let state = link.state;
     let next = moves::next(row, states::column_of(state));
+    Decided { row, next }
+}
+
+// Whether the card is then as if it had heard nothing.
+pub fn leaves_alone(decided: Decided) -> bool
+    ensures answer { λ r. ⌜ r ≡ leavesAlone decided ⌝ }
+{
+    let next = decided.next;
+    match next {
+        Move::Ignored => true,
+        Move::Silent => true,
+        Move::Illegal => false,
+        Move::To(_) => false,
+    }
+}
+
+// What was decided, done.
+pub fn follow(link: Link, met: Met, index: u8, argument: u32, decided: Decided) -> Commanded
+    ensures answer { λ r. ⌜ r ≡ movedBy link met (receivedOf link met index argument) (decided .row) (decided .next) ⌝ }
+{
+    let asked = received(link, met, index, argument);
+    let row = decided.row;
+    let next = decided.next;
     match next {
         Move::Ignored => silent(link),
         Move::Silent => silent(link),
@@ -252,4 +248,12 @@ pub fn command(link: Link, met: Met, index: u8, argument: u32) -> Commanded
         }),
         Move::To(column) => take(link, met, asked, row, column),
     }
+}
+
+// A command at a card, from check 1 on.
+pub fn command(link: Link, met: Met, index: u8, argument: u32) -> Commanded
+    ensures answer { λ r. ⌜ r ≡ commandOf link met index argument ⌝ }
+{
+    let decided = decide(link, met, index, argument);
+    follow(link, met, index, argument, decided)
 }

@@ -1,8 +1,12 @@
 // What a command does to a card, whatever mode it came in: the checks of the lock and of the
 // argument, the tags that it leaves, the next link, and what it changes in what is lent.
+//
+// Offers: `act`.
+use crate::Acted;
 use crate::Change;
+use crate::Met;
+use crate::arguments::argument_fault;
 use base::PROTECTION_GROUP;
-use base::SECTOR;
 use card_record::Link;
 use moves::Class;
 use states::Column;
@@ -10,25 +14,17 @@ use states::Incoming;
 use states::Outgoing;
 use states::State;
 use status::ErrorBit;
+use status::Errors;
 use status::Fault;
 use tags::Kind;
 use tags::Tagging;
 use tags::Tags;
 ghost use mathlib.Core.Path.{_≡_};
-ghost use Rattle.command.specs.Arguments.{lengthFault, readFault, writeFault, groupFault, addressFault, argumentFault};
-ghost use Rattle.command.specs.Obey.{dropsTags, passesLock, eraseTagging, taggingOf, judgedOf, stateAt, awaitedBy, addressAfter, lengthAfter, obeyed, changeOf};
-
-// The sizes of document 01, in the types that they are used in here: a sector as a block's length,
-// and as a part of the memory.
-const LONGEST_BLOCK: u32 = wire::LONGEST_BLOCK as u32;
-
-const SECTOR_LENGTH: u16 = SECTOR as u16;
-
-const SECTOR_SPAN: u64 = SECTOR as u64;
+ghost use Rattle.command.specs.Obey.{dropsTags, passesLock, eraseTagging, taggingOf, judgedOf, resetTold, stateAt, awaitedBy, addressAfter, lengthAfter, obeyed, changeOf, actedOf};
 
 // Whether a command other than the erase commands drops tags.
-pub fn drops_tags(index: u8) -> bool
-    ensures answer { λ r. ⌜ r ≡ dropsTags index ⌝ }
+fn drops_tags(index: u8) -> bool
+    ensures { λ r. ⌜ r ≡ dropsTags index ⌝ }
 {
     match index {
         0 => false,
@@ -43,8 +39,8 @@ pub fn drops_tags(index: u8) -> bool
 }
 
 // Check 5: whether a card takes a command in spite of its lock.
-pub fn passes_lock(locked: bool, index: u8) -> bool
-    ensures answer { λ r. ⌜ r ≡ passesLock locked index ⌝ }
+fn passes_lock(locked: bool, index: u8) -> bool
+    ensures { λ r. ⌜ r ≡ passesLock locked index ⌝ }
 {
     if !locked {
         return true;
@@ -61,88 +57,6 @@ pub fn passes_lock(locked: bool, index: u8) -> bool
         Class::Erase => false,
         Class::Lock => false,
         Class::Unsupported => false,
-    }
-}
-
-// CMD16.
-fn length_fault(argument: u32) -> Fault
-    ensures { λ r. ⌜ r ≡ lengthFault argument ⌝ }
-{
-    if argument < 1 {
-        return Fault::Bit(ErrorBit::BlockLenError);
-    }
-    if LONGEST_BLOCK < argument {
-        return Fault::Bit(ErrorBit::BlockLenError);
-    }
-    Fault::None
-}
-
-// CMD17, 18.
-fn read_fault(argument: u32, length: u16, size: u32) -> Fault
-    ensures { λ r. ⌜ r ≡ readFault argument length size ⌝ }
-{
-    let end = argument as u64 + length as u64;
-    if (size as u64) < end {
-        return Fault::Bit(ErrorBit::OutOfRange);
-    }
-    if card_record::crosses(argument, length) {
-        return Fault::Bit(ErrorBit::AddressError);
-    }
-    Fault::None
-}
-
-// CMD24, 25.
-fn write_fault(argument: u32, length: u16, size: u32) -> Fault
-    ensures { λ r. ⌜ r ≡ writeFault argument length size ⌝ }
-{
-    if length != SECTOR_LENGTH {
-        return Fault::Bit(ErrorBit::BlockLenError);
-    }
-    let end = argument as u64 + SECTOR_SPAN;
-    if (size as u64) < end {
-        return Fault::Bit(ErrorBit::OutOfRange);
-    }
-    if argument % SECTOR != 0 {
-        return Fault::Bit(ErrorBit::AddressError);
-    }
-    Fault::None
-}
-
-// CMD28, 29, 30.
-fn group_fault(argument: u32, size: u32) -> Fault
-    ensures { λ r. ⌜ r ≡ groupFault argument size ⌝ }
-{
-    if size <= argument {
-        return Fault::Bit(ErrorBit::OutOfRange);
-    }
-    Fault::None
-}
-
-// CMD3.
-fn address_fault(argument: u32) -> Fault
-    ensures { λ r. ⌜ r ≡ addressFault argument ⌝ }
-{
-    if argument / 65536 < 1 {
-        return Fault::Bit(ErrorBit::OutOfRange);
-    }
-    Fault::None
-}
-
-// Check 6, for all commands but the erase commands.
-fn argument_fault(index: u8, argument: u32, length: u16, size: u32) -> Fault
-    ensures { λ r. ⌜ r ≡ argumentFault index argument length size ⌝ }
-{
-    match index {
-        3 => address_fault(argument),
-        16 => length_fault(argument),
-        17 => read_fault(argument, length, size),
-        18 => read_fault(argument, length, size),
-        24 => write_fault(argument, length, size),
-        25 => write_fault(argument, length, size),
-        28 => group_fault(argument, size),
-        29 => group_fault(argument, size),
-        30 => group_fault(argument, size),
-        _ => Fault::None,
     }
 }
 
@@ -185,8 +99,8 @@ fn tagging(link: Link, size: u32, index: u8, argument: u32) -> Tagging
 }
 
 // Checks 5 and 6, with the tags that the command leaves.
-pub fn judge(link: Link, groups: u16, locked: bool, index: u8, argument: u32) -> Tagging
-    ensures answer { λ r. ⌜ r ≡ judgedOf link groups locked index argument ⌝ }
+fn judge(link: Link, groups: u16, locked: bool, index: u8, argument: u32) -> Tagging
+    ensures { λ r. ⌜ r ≡ judgedOf link groups locked index argument ⌝ }
 {
     if !passes_lock(locked, index) {
         return Tagging {
@@ -195,6 +109,19 @@ pub fn judge(link: Link, groups: u16, locked: bool, index: u8, argument: u32) ->
         };
     }
     tagging(link, card_record::size(groups), index, argument)
+}
+
+// The error bits with 13 where the command drops tags.
+fn reset_told(link: Link, index: u8) -> Errors
+    ensures { λ r. ⌜ r ≡ resetTold link index ⌝ }
+{
+    if !drops_tags(index) {
+        return link.errors;
+    }
+    if !tags::any(link.tags) {
+        return link.errors;
+    }
+    status::set(link.errors, ErrorBit::EraseReset)
 }
 
 // The state of a column: in data and rcv it is the one that carries the work.
@@ -249,8 +176,8 @@ fn length_after(index: u8, argument: u32, length: u16) -> u16
 }
 
 // A command without a fault obeyed: it leads to a column, and leaves these tags.
-pub fn obey(link: Link, index: u8, argument: u32, column: Column, tags: Tags) -> Link
-    ensures answer { λ r. ⌜ r ≡ obeyed link index argument column tags ⌝ }
+fn obey(link: Link, index: u8, argument: u32, column: Column, tags: Tags) -> Link
+    ensures { λ r. ⌜ r ≡ obeyed link index argument column tags ⌝ }
 {
     let state = link.state;
     Link {
@@ -263,8 +190,8 @@ pub fn obey(link: Link, index: u8, argument: u32, column: Column, tags: Tags) ->
 }
 
 // What a command without a fault changes in what is lent.
-pub fn change_of(index: u8, argument: u32) -> Change
-    ensures answer { λ r. ⌜ r ≡ changeOf index argument ⌝ }
+fn change_of(index: u8, argument: u32) -> Change
+    ensures { λ r. ⌜ r ≡ changeOf index argument ⌝ }
 {
     match index {
         28 => Change::Protect {
@@ -277,5 +204,35 @@ pub fn change_of(index: u8, argument: u32) -> Change
         },
         38 => Change::Erase,
         _ => Change::Nothing,
+    }
+}
+
+// What a taken command does, which the table leads to a column: CMD0 resets; with a fault the
+// command only tells its bit, else it is obeyed.
+pub fn act(link: Link, met: Met, index: u8, argument: u32, column: Column) -> Acted
+    ensures answer { λ r. ⌜ r ≡ actedOf link met index argument column ⌝ }
+{
+    if index == 0 {
+        return Acted {
+            link: card_record::fresh(),
+            errors: status::none(),
+            change: Change::Nothing,
+        };
+    }
+    let judged = judge(link, met.groups, met.locked, index, argument);
+    let errors = reset_told(link, index);
+    let tags = judged.tags;
+    let fault = judged.error;
+    match fault {
+        Fault::None => Acted {
+            link: obey(link, index, argument, column, tags),
+            errors,
+            change: change_of(index, argument),
+        },
+        Fault::Bit(bit) => Acted {
+            link: Link { tags, ..link },
+            errors: status::set(errors, bit),
+            change: Change::Nothing,
+        },
     }
 }

@@ -26,7 +26,8 @@ fn run(buffer: &mut [u8], script: usize, memory: &mut [u8], map: &mut [u8], out:
     let mut turns = u64::MAX;
     while turns > 0 {
         before = turn(before, buffer, memory, map, out);
-        if is_over(before, out) {
+        let then = before.then;
+        if is_over(then, before.to, out) {
             return;
         }
         turns -= 1;
@@ -47,13 +48,12 @@ fn turn(
 }
 
 // Whether the script goes no further: no more bytes come, so of those left over `cut` is said.
-fn is_over(before: Turned, out: &mut [u8]) -> bool {
-    let then = before.then;
+fn is_over(then: Then, left: usize, out: &mut [u8]) -> bool {
     match then {
         Then::Goes => false,
         Then::Stops => true,
         Then::Waits => {
-            let n = cardline_records::cut(before.to, out);
+            let n = cardline_records::cut(left, out);
             show(out, n);
             true
         }

@@ -19,7 +19,7 @@ use Rattle.card_record.specs.declared.Card.{Card}
 use Rattle.states.specs.declared.State.the-variants.{Idle}
 use Rattle.tags.specs.declared.Kind.the-variants.{Groups}
 use Rattle.tags.specs.declared.Range.the-variants.{Full}
-use Rattle.crossing.specs.Record.{stateOf, tagsBy, cardOf, numbersOf}
+use Rattle.crossing.specs.Record.{stateOf, tagsBy, linkOf, lockOf, cardOf, linkNumbers, lockNumbers, numbersOf}
 
 -- numbers that no record has: a state of 14, an address of 17 bits, tags of 5, a flag of 2
 abbrev odd : Card
@@ -27,25 +27,25 @@ odd =
     cardOf (14 ∷ 0 ∷ 0x10007 ∷ 512 ∷ 0 ∷ 5 ∷ 3 ∷ 4 ∷ 2 ∷ 0 ∷ 1 ∷ 0x00FF8000 ∷ []) (replicate 16 0) (replicate 16 0) (replicate 16 0)
 
 state-14-idle : odd .link .state ≡ Idle → ⊥
-unfolding cardOf stateOf
+unfolding cardOf linkOf stateOf
 state-14-idle e = clash cc
 
 unlocked-by-2 : odd .lock .locked ≡ false → ⊥
-unfolding cardOf
+unfolding cardOf lockOf
 unlocked-by-2 e = never (sym e)
 
 tags-by-5 : odd .link .tags .range ≡ Full Groups 3 4 → ⊥
-unfolding cardOf tagsBy
+unfolding cardOf linkOf tagsBy
 tags-by-5 e = clash cc
 
 address-dropped : odd .link .address ≡ 0 → ⊥
-unfolding cardOf
+unfolding cardOf linkOf
 address-dropped e = omega arith
 
 inactive-as-idle : getD (numbersOf refusedMake) 0 0 ≡ 0 → ⊥
-unfolding numbersOf refusedMake
+unfolding numbersOf linkNumbers refusedMake
 inactive-as-idle e = omega arith
 
 unlocked-as-1 : getD (numbersOf refusedMake) 8 0 ≡ 1 → ⊥
-unfolding numbersOf refusedMake holding
+unfolding numbersOf linkNumbers lockNumbers refusedMake holding
 unlocked-as-1 e = omega arith

@@ -1,13 +1,17 @@
 -- A card's record as C holds it: twelve numbers, and the 16 bytes each of the CID, the CSD and the password. The record that any numbers and
--- bytes stand for, and the numbers of a record. That nothing is lost between the two is the theorem of proofs/Crossing.antt.
+-- bytes stand for, and the numbers of a record, each by its three parts: the link's eight numbers, the lock's two and the registers' two. That
+-- nothing is lost between the two is the theorem of proofs/Crossing.antt.
 -- Assumes nothing.
-use mathlib.Core.Bool.{not}
-use mathlib.Core.List.{List, [], _∷_}
+use mathlib.Core.Bool.{Bool, not}
+use mathlib.Core.List.{List, [], _∷_, _++_}
 use Prim.Native.Nat.{ℕ, _%_, _<_}
 use lib.Dec.{eqb}
 use lib.ListN.{getD}
 use Rattle.base.specs.Choice.{pick}
 use Rattle.card_record.specs.declared.Card.{Card}
+use Rattle.card_record.specs.declared.Link.{Link}
+use Rattle.card_record.specs.declared.Registers.{Registers}
+use Rattle.lock.specs.declared.Lock.{Lock}
 use Rattle.states.specs.declared.Incoming.{Incoming}
 use Rattle.states.specs.declared.Incoming.the-variants.{One as OneIn, Many as ManyIn, LockRequest}
 use Rattle.states.specs.declared.Outgoing.{Outgoing}
@@ -46,22 +50,35 @@ tagsBy number first last =
     (pick (eqb number 2) (Start Groups first)
     (pick (eqb number 3) (Full Sectors first last) (pick (eqb number 4) (Full Groups first last) Nothing))))
 
--- the record of twelve numbers, a CID, a CSD and a password: of a number that is wider than its field the low bits count, and every number but 0
--- is locked
+-- the size of the memory, in protection groups
+abbrev pub groupsOf : List ℕ → ℕ
+groupsOf numbers = getD numbers 10 0 % 65536
+
+-- every number but 0 is locked
+abbrev pub lockedOf : List ℕ → Bool
+lockedOf numbers = not (eqb (getD numbers 8 0) 0)
+
+-- the three parts of a record, each of its own numbers: of a number that is wider than its field the low bits count
+unfoldable pub linkOf : List ℕ → Link
+linkOf numbers =
+    record {
+      state = stateOf (getD numbers 0 0) (getD numbers 1 0);
+      address = getD numbers 2 0 % 65536;
+      length = getD numbers 3 0 % 65536;
+      errors = record { bits = getD numbers 4 0 };
+      tags = tagsBy (getD numbers 5 0) (getD numbers 6 0) (getD numbers 7 0);
+    }
+
+unfoldable pub lockOf : List ℕ → List ℕ → Lock
+lockOf numbers password = record { password = password; length = getD numbers 9 0 % 256; locked = lockedOf numbers }
+
+unfoldable pub registersOf : List ℕ → List ℕ → List ℕ → Registers
+registersOf numbers cid csd = record { cid = cid; csd = csd; ocr = getD numbers 11 0; groups = groupsOf numbers }
+
+-- the record of twelve numbers, a CID, a CSD and a password
 unfoldable pub cardOf : List ℕ → List ℕ → List ℕ → List ℕ → Card
 cardOf numbers cid csd password =
-    record {
-      registers = record { cid = cid; csd = csd; ocr = getD numbers 11 0; groups = getD numbers 10 0 % 65536 };
-      lock = record { password = password; length = getD numbers 9 0 % 256; locked = not (eqb (getD numbers 8 0) 0) };
-      link =
-          record {
-            state = stateOf (getD numbers 0 0) (getD numbers 1 0);
-            address = getD numbers 2 0 % 65536;
-            length = getD numbers 3 0 % 65536;
-            errors = record { bits = getD numbers 4 0 };
-            tags = tagsBy (getD numbers 5 0) (getD numbers 6 0) (getD numbers 7 0);
-          };
-    }
+    record { registers = registersOf numbers cid csd; lock = lockOf numbers password; link = linkOf numbers }
 
 -- ---- from a record to numbers
 abbrev pub outgoingNumber : Outgoing → ℕ
@@ -127,17 +144,29 @@ lastOf Nothing = 0
 lastOf (Start kind first) = 0
 lastOf (Full kind first last) = last
 
+-- the numbers of each part, eight, two and two
+unfoldable pub linkNumbers : Link → List ℕ
+linkNumbers link =
+    stateNumber (link .state) ∷ placeCarried (link .state) ∷ link .address ∷ link .length ∷ link .errors .bits ∷ tagsNumber (link .tags .range) ∷
+    firstOf (link .tags .range) ∷ lastOf (link .tags .range) ∷ []
+
+unfoldable pub lockNumbers : Lock → List ℕ
+lockNumbers lock = flag (lock .locked) ∷ lock .length ∷ []
+
+unfoldable pub registerNumbers : Registers → List ℕ
+registerNumbers registers = registers .groups ∷ registers .ocr ∷ []
+
 -- the twelve numbers of a record, in the order in which mmc.h names them
 unfoldable pub numbersOf : Card → List ℕ
-numbersOf card =
-    stateNumber (card .link .state) ∷ placeCarried (card .link .state) ∷ card .link .address ∷ card .link .length ∷ card .link .errors .bits ∷
-    tagsNumber (card .link .tags .range) ∷ firstOf (card .link .tags .range) ∷ lastOf (card .link .tags .range) ∷ flag (card .lock .locked) ∷
-    card .lock .length ∷ card .registers .groups ∷ card .registers .ocr ∷ []
+numbersOf card = linkNumbers (card .link) ++ lockNumbers (card .lock) ++ registerNumbers (card .registers)
 
 -- a record whose numbers are within the widths of their fields, 16 and 8 bits: every value of the type is. The other numbers have the 32 bits
 -- of the numbers that C holds
+pub record LinkWithin (link : Link) : Type 0 where
+  pub address : link .address < 65536
+  pub length : link .length < 65536
+
 pub record Within (card : Card) : Type 0 where
-  pub address : card .link .address < 65536
-  pub length : card .link .length < 65536
+  pub link : LinkWithin (card .link)
   pub password-length : card .lock .length < 256
   pub groups : card .registers .groups < 65536

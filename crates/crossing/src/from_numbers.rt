@@ -14,7 +14,7 @@ use tags::Kind;
 use tags::Range;
 use tags::Tags;
 ghost use mathlib.Core.Path.{_≡_};
-ghost use Rattle.crossing.specs.Record.{stateOf, tagsBy, cardOf};
+ghost use Rattle.crossing.specs.Record.{stateOf, tagsBy, groupsOf, lockedOf, linkOf, registersOf, cardOf};
 
 fn state_of(number: u32, at: u32) -> State
     ensures { λ r. ⌜ r ≡ stateOf number at ⌝ }
@@ -50,27 +50,54 @@ fn tags_by(number: u32, first: u32, last: u32) -> Tags
     Tags { range }
 }
 
+// The size of the memory, in protection groups.
+pub fn groups_of(numbers: [u32; 12]) -> u16
+    ensures answer { λ r. ⌜ r ≡ groupsOf numbers ⌝ }
+{
+    (numbers[10] % 65536) as u16
+}
+
+pub fn locked_of(numbers: [u32; 12]) -> bool
+    ensures answer { λ r. ⌜ r ≡ lockedOf numbers ⌝ }
+{
+    numbers[8] != 0
+}
+
+// The link of the first eight numbers.
+pub fn link_of(numbers: [u32; 12]) -> Link
+    ensures answer { λ r. ⌜ r ≡ linkOf numbers ⌝ }
+{
+    Link {
+        state: state_of(numbers[0], numbers[1]),
+        address: (numbers[2] % 65536) as u16,
+        length: (numbers[3] % 65536) as u16,
+        errors: Errors { bits: numbers[4] },
+        tags: tags_by(numbers[5], numbers[6], numbers[7]),
+    }
+}
+
+// The registers of the last two, with the bytes of the CID and the CSD.
+pub fn registers_of(numbers: [u32; 12], cid: [u8; 16], csd: [u8; 16]) -> Registers
+    ensures answer { λ r. ⌜ r ≡ registersOf numbers cid csd ⌝ }
+{
+    Registers {
+        cid,
+        csd,
+        ocr: numbers[11],
+        groups: groups_of(numbers),
+    }
+}
+
 pub fn card_of(numbers: [u32; 12], cid: [u8; 16], csd: [u8; 16], password: [u8; 16]) -> Card
     ensures answer { λ r. ⌜ r ≡ cardOf numbers cid csd password ⌝ }
 {
     Card {
-        registers: Registers {
-            cid,
-            csd,
-            ocr: numbers[11],
-            groups: (numbers[10] % 65536) as u16,
-        },
+        registers: registers_of(numbers, cid, csd),
         lock: Lock {
             password,
             length: (numbers[9] % 256) as u8,
-            locked: numbers[8] != 0,
+            locked: locked_of(numbers),
         },
-        link: Link {
-            state: state_of(numbers[0], numbers[1]),
-            address: (numbers[2] % 65536) as u16,
-            length: (numbers[3] % 65536) as u16,
-            errors: Errors { bits: numbers[4] },
-            tags: tags_by(numbers[5], numbers[6], numbers[7]),
-        },
+        link: link_of(numbers),
     }
 }

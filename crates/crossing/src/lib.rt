@@ -1,11 +1,19 @@
 // A card's record as plain numbers and bytes, so that it can cross to C: the kit exports no function
 // that takes a reference to what holds an enum. Twelve numbers, and the 16 bytes each of the CID, the
 // CSD and the password, stand for a record (from_numbers.rt), and any do; a record has its numbers
-// (to_numbers.rt). Nothing is lost between the two (proofs/Crossing.antt).
+// (to_numbers.rt). Eight of them are the link's, two the lock's and two the registers': a part that a
+// call does not change need not be told. Nothing is lost between the two (proofs/Crossing.antt).
 //
-// Offers: `card_of`, `numbers_of`.
+// Offers: `card_of`, `link_of`, `registers_of`, `groups_of`, `locked_of`; `tell_card`, `tell_link`,
+// `tell_link_and_lock`.
 mod from_numbers;
 mod to_numbers;
 
 pub use from_numbers::card_of;
-pub use to_numbers::numbers_of;
+pub use from_numbers::groups_of;
+pub use from_numbers::link_of;
+pub use from_numbers::locked_of;
+pub use from_numbers::registers_of;
+pub use to_numbers::tell_card;
+pub use to_numbers::tell_link;
+pub use to_numbers::tell_link_and_lock;

@@ -1,12 +1,18 @@
 // A record told in numbers.
 use card_record::Card;
+use card_record::Link;
+use card_record::Registers;
+use lock::Lock;
 use states::Incoming;
 use states::Outgoing;
 use states::State;
 use tags::Kind;
 use tags::Range;
+ghost use mathlib.Core.List.{_++_};
 ghost use mathlib.Core.Path.{_≡_};
-ghost use Rattle.crossing.specs.Record.{outgoingNumber, incomingNumber, stateNumber, outgoingAt, incomingAt, placeCarried, startNumber, fullNumber, tagsNumber, lastOf, cardOf, numbersOf};
+ghost use Prim.Native.Nat.{_≤_};
+ghost use lib.ListN.{length, take, drop};
+ghost use Rattle.crossing.specs.Record.{outgoingNumber, incomingNumber, stateNumber, outgoingAt, incomingAt, placeCarried, startNumber, fullNumber, tagsNumber, lastOf, linkOf, linkNumbers, lockOf, lockNumbers, registerNumbers, cardOf, numbersOf};
 ghost use Rattle.status.specs.Status.{flag};
 ghost use Rattle.tags.specs.Tagging.{firstOf};
 
@@ -139,31 +145,70 @@ fn flag(is: bool) -> u32
     if is { 1 } else { 0 }
 }
 
-// The numbers of a record. With its bytes they stand for that record again: the type of a record
-// says that each number is within the width of its field.
-pub fn numbers_of(card: Card) -> [u32; 12]
-    ensures answer { λ r. ⌜ r ≡ numbersOf card ⌝ }
-    ensures crossing { λ r. ⌜ cardOf r (card .registers .cid) (card .registers .csd) (card .lock .password) ≡ card ⌝ }
+// The link's numbers at the front of others, and those behind as they were.
+fn put_link(link: Link, numbers: &mut [u32])
+    requires { ⌜ 8 ≤ length (now numbers) ⌝ }
+    ensures { λ _. ⌜ now (numbers .exit) ≡ linkNumbers link ++ drop 8 (now (numbers .entry)) ⌝ }
 {
-    let registers = card.registers;
-    let lock = card.lock;
-    let link = card.link;
     let state = link.state;
     let errors = link.errors;
     let tags = link.tags;
     let range = tags.range;
-    [
-        state_number(state),
-        place_carried(state),
-        link.address as u32,
-        link.length as u32,
-        errors.bits,
-        tags_number(range),
-        first_of(range),
-        last_of(range),
-        flag(lock.locked),
-        lock.length as u32,
-        registers.groups as u32,
-        registers.ocr,
-    ]
+    numbers[0] = state_number(state);
+    numbers[1] = place_carried(state);
+    numbers[2] = link.address as u32;
+    numbers[3] = link.length as u32;
+    numbers[4] = errors.bits;
+    numbers[5] = tags_number(range);
+    numbers[6] = first_of(range);
+    numbers[7] = last_of(range);
+}
+
+// The lock's numbers behind the link's.
+fn put_lock(lock: Lock, numbers: &mut [u32])
+    requires { ⌜ 10 ≤ length (now numbers) ⌝ }
+    ensures { λ _. ⌜ now (numbers .exit) ≡ take 8 (now (numbers .entry)) ++ lockNumbers lock ++ drop 10 (now (numbers .entry)) ⌝ }
+{
+    numbers[8] = flag(lock.locked);
+    numbers[9] = lock.length as u32;
+}
+
+// The registers' numbers behind the lock's.
+fn put_registers(registers: Registers, numbers: &mut [u32])
+    requires { ⌜ 12 ≤ length (now numbers) ⌝ }
+    ensures { λ _. ⌜ now (numbers .exit) ≡ take 10 (now (numbers .entry)) ++ registerNumbers registers ++ drop 12 (now (numbers .entry)) ⌝ }
+{
+    numbers[10] = registers.groups as u32;
+    numbers[11] = registers.ocr;
+}
+
+// The first eight numbers told of a link, and the other four as they were. They then stand for it:
+// its type says that each number is within the width of its field.
+pub fn tell_link(link: Link, numbers: &mut [u32; 12])
+    ensures numbers { λ _. ⌜ now (numbers .exit) ≡ linkNumbers link ++ drop 8 (now (numbers .entry)) ⌝ }
+    ensures crossing { λ _. ⌜ linkOf (now (numbers .exit)) ≡ link ⌝ }
+{
+    put_link(link, numbers);
+}
+
+// The first ten numbers, told of a link and a lock, and the registers' two as they were.
+pub fn tell_link_and_lock(link: Link, lock: Lock, numbers: &mut [u32; 12])
+    ensures numbers { λ _. ⌜ now (numbers .exit) ≡ linkNumbers link ++ lockNumbers lock ++ drop 10 (now (numbers .entry)) ⌝ }
+    ensures crossing { λ _. ⌜ (linkOf (now (numbers .exit)) ≡ link) × (lockOf (now (numbers .exit)) (lock .password) ≡ lock) ⌝ }
+{
+    put_link(link, numbers);
+    put_lock(lock, numbers);
+}
+
+// All twelve numbers, of a record.
+pub fn tell_card(card: Card, numbers: &mut [u32; 12])
+    ensures numbers { λ _. ⌜ now (numbers .exit) ≡ numbersOf card ⌝ }
+    ensures crossing { λ _. ⌜ cardOf (now (numbers .exit)) (card .registers .cid) (card .registers .csd) (card .lock .password) ≡ card ⌝ }
+{
+    let registers = card.registers;
+    let lock = card.lock;
+    let link = card.link;
+    put_link(link, numbers);
+    put_lock(lock, numbers);
+    put_registers(registers, numbers);
 }

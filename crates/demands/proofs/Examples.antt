@@ -28,6 +28,7 @@ use Rattle.states.specs.declared.State.the-variants.{Stby, Tran, Prg}
 use Rattle.status.specs.ErrorBits.{errorBit}
 use Rattle.status.specs.Status.{noErrors}
 use Rattle.status.specs.declared.Fault.the-variants.{Bit}
+use Rattle.store.specs.Lent.{lentOf}
 use Rattle.store.specs.Map.{entriesRight}
 use Rattle.tags.specs.Tagging.{noTags}
 use Rattle.demands.specs.Faulted.{fault}
@@ -58,6 +59,6 @@ no-move-met = (record { judged = refl; selects = refl; stuck = refl }, record { 
 abbrev inTran : Card
 inTran = record { registers = record { cid = replicate 16 0; csd = replicate 16 0; ocr = 0x00FF8000; groups = 0 }; lock = noPassword; link = linked Tran }
 
-pub refuses-met : Refuses inTran BlockIn [] [] [] [] (by 15)
+pub refuses-met : Refuses inTran BlockIn [] (lentOf [] []) [] (by 15)
 unfolding blockJudged entriesRight
 refuses-met = refl

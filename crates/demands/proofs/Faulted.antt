@@ -12,19 +12,19 @@ use Prim.Native.Nat.{ℕ}
 use lib.Dec.{eqb}
 use Rattle.base.proofs.Cases.{cases, clash}
 use Rattle.base.specs.Choice.{pick, unless}
-use Rattle.command.specs.Answers.{answered, silent}
-use Rattle.command.specs.Command.{metBy, receivedOf, takenOf, concluded, resetTold, commandOf}
-use Rattle.command.specs.Obey.{passesLock, taggingOf, judgedOf}
+use Rattle.command.proofs.Faults.{judged-drops, faulty, fault-by-r1}
+use Rattle.command.specs.Answers.{responseOf, answered}
+use Rattle.command.specs.Command.{metBy, receivedOf, takenOf, commandOf}
+use Rattle.command.specs.Obey.{passesLock, taggingOf, judgedOf, resetTold, goneIdle, afterChecks, actedOf}
+use Rattle.command.specs.declared.Acted.{Acted}
 use Rattle.command.specs.declared.Change.the-variants.{Nothing}
 use Rattle.command.specs.declared.Commanded.{Commanded}
 use Rattle.command.specs.declared.Met.{Met}
 use Rattle.command.specs.declared.Response.{Response}
 use Rattle.command.specs.declared.Response.the-variants.{R1}
-use Rattle.moves.specs.Indices.{among}
 use Rattle.moves.specs.Rows.{rowOf}
 use Rattle.moves.specs.declared.Received.{Received}
 use Rattle.moves.specs.declared.Move.the-variants.{To}
-use Rattle.card_record.specs.Power.{freshLink}
 use Rattle.card_record.specs.Record.{sizeOf, withTags}
 use Rattle.card_record.specs.declared.Card.{Card}
 use Rattle.card_record.specs.declared.Link.{Link}
@@ -37,13 +37,14 @@ use Rattle.status.specs.ErrorBits.{placeOf, errorBit}
 use Rattle.status.specs.Status.{withBit, wordOf}
 use Rattle.status.specs.declared.ErrorBit.{ErrorBit}
 use Rattle.status.specs.declared.Errors.{Errors}
-use Rattle.status.specs.declared.Fault.the-variants.{None, Bit}
+use Rattle.status.specs.declared.Fault.{Fault}
+use Rattle.status.specs.declared.Fault.the-variants.{Bit}
+use Rattle.store.specs.Lent.{Lent}
 use Rattle.tags.specs.Tagging.{noTags, tagFailed}
 use Rattle.tags.specs.declared.Tagging.{Tagging}
 use Rattle.tags.specs.declared.Tags.{Tags}
 use Rattle.demands.specs.Faulted.{fault, Faulted}
 use Rattle.demands.specs.Silenced.{Taken, Reads, Unlent}
-use Rattle.demands.proofs.Faults.{faultless, no-fault, judged-drops, row-judging, answers-r1}
 use Rattle.demands.proofs.Frames.{unlent}
 use Rattle.demands.proofs.Silenced.{by-move}
 
@@ -62,37 +63,36 @@ module _ (link : Link) (met : Met) (index argument : ℕ) (column : Column) (bit
   abbrev tagging : Tagging
   tagging = judgedOf link (met .groups) (met .locked) index argument
 
-  others : among index faultless ≡ false
-  others =
-      cases (among index faultless)
-      (λ (t : among index faultless ≡ true).
-      let none : fault link met index argument ≡ None = no-fault link (met .groups) (met .locked) argument index t in
-      clash cc)
-      (λ t. t)
-
   not-reset : eqb index 0 ≡ false
   not-reset =
       cases (eqb index 0)
-      (λ (t : eqb index 0 ≡ true). clash (cc (simp t at others)))
+      (λ (t : eqb index 0 ≡ true). clash (cc (simp t at (faulty link met index argument bit faults))))
       (λ t. t)
 
-  -- the answer to these error bits, for a response and tags
+  -- the answer to what the command did, and to these error bits, for a response and tags
+  abbrev answerTo : Acted → Response → Commanded
+  answerTo acted response = answered acted response index (met .locked) (columnOf (link .state))
+
   abbrev answer : Response → Tags → Commanded
   answer response tags =
-      answered (withTags link tags) (withBit (resetTold link index) bit) response index (met .locked) (columnOf (link .state)) Nothing
+      answerTo (record { link = withTags link tags; errors = withBit (resetTold link index) bit; change = Nothing }) response
 
-  concluded-is : commandOf link met index argument ≡ concluded link met asked (rowOf asked) column (tagging .tags) (tagging .error)
-  unfolding takenOf
-  concluded-is =
+  -- what the command did, by what checks 5 and 6 found
+  abbrev checked : Fault → Acted
+  checked error = afterChecks link index argument column (tagging .tags) error
+
+  checked-is : commandOf link met index argument ≡ answerTo (checked (tagging .error)) (responseOf (rowOf asked))
+  unfolding takenOf actedOf
+  checked-is =
       by-move link met index argument (To column) taken
-      ∙ ap (λ (t : Bool). pick t (silent freshLink) (concluded link met asked (rowOf asked) column (tagging .tags) (tagging .error))) not-reset
+      ∙ ap (λ (t : Bool). answerTo (pick t goneIdle (checked (tagging .error))) (responseOf (rowOf asked))) not-reset
 
   answer-is : commandOf link met index argument ≡ answer R1 noTags
-  unfolding concluded
+  unfolding afterChecks
   answer-is =
-      concluded-is
-      ∙ ap (concluded link met asked (rowOf asked) column (tagging .tags)) faults
-      ∙ ap (λ (r : Response). answer r (tagging .tags)) (answers-r1 (rowOf asked) (columnOf (link .state)) column (row-judging asked others) taken)
+      checked-is
+      ∙ ap (λ (f : Fault). answerTo (checked f) (responseOf (rowOf asked))) faults
+      ∙ ap (λ (r : Response). answer r (tagging .tags)) (fault-by-r1 link met index argument bit faults column taken)
       ∙ ap (answer R1) (judged-drops link (met .groups) (met .locked) index argument bit faults)
 
   faulted-so : Faulted link met index argument bit (commandOf link met index argument)
@@ -127,13 +127,13 @@ pub only-passes-lock : (link : Link) (met : Met) (index argument : ℕ) (column 
 only-passes-lock link met index argument column taken stopped =
     faulted link met index argument column (errorBit 24) taken (lock-fault link met index argument stopped)
 
-module _ (card : Card) (wins : Bool) (frame memory map out : List ℕ) (index argument : ℕ) (reads : Reads card frame memory map index argument)
+module _ (card : Card) (wins : Bool) (frame : List ℕ) (lent : Lent) (out : List ℕ) (index argument : ℕ) (reads : Reads card frame lent index argument)
     (column : Column) (taken : Taken (card .link) (metBy card wins) index argument column) where
   pub faulted-frame : (bit : ErrorBit) → fault (card .link) (metBy card wins) index argument ≡ Bit bit
-      → Unlent card wins frame memory map out (commandOf (card .link) (metBy card wins) index argument)
+      → Unlent card wins frame lent out (commandOf (card .link) (metBy card wins) index argument)
   faulted-frame bit faults =
-      unlent card wins frame memory map out index argument reads (faulted (card .link) (metBy card wins) index argument column bit taken faults .change)
+      unlent card wins frame lent out index argument reads (faulted (card .link) (metBy card wins) index argument column bit taken faults .change)
 
   pub locked-frame : passesLock (card .lock .locked) index ≡ false
-      → Unlent card wins frame memory map out (commandOf (card .link) (metBy card wins) index argument)
+      → Unlent card wins frame lent out (commandOf (card .link) (metBy card wins) index argument)
   locked-frame stopped = faulted-frame (errorBit 24) (lock-fault (card .link) (metBy card wins) index argument stopped)

@@ -12,13 +12,10 @@ use mathlib.Core.List.{List}
 use Prim.Native.Nat.{ℕ}
 use borrow.Author.Tests.{ne-eqb}
 use lib.ListN.{length}
-use Rattle.base.specs.Choice.{unless}
-use Rattle.base.specs.Refusals.{by}
-use Rattle.card.specs.Frame.{frameRefused, commanded, framed, frameJudged, frameStepped, spares, sparedTold, erasedBy, protectedBy}
+use Rattle.card.specs.Frame.{FrameJudged, frameRefused, commanded, framed, frameJudged, frameStepped, spares, sparedTold, changedBy}
 use Rattle.card.specs.Replies.{done}
 use Rattle.card.specs.Step.{stepOf}
 use Rattle.card.specs.declared.Call.the-variants.{Frame}
-use Rattle.card.specs.declared.FrameJudged.{FrameJudged}
 use Rattle.command.proofs.Verdict.{any-wins, lost-unchanged}
 use Rattle.command.specs.Answers.{silent}
 use Rattle.command.specs.Command.{metBy, commandOf}
@@ -28,7 +25,9 @@ use Rattle.command.specs.declared.Commanded.{Commanded}
 use Rattle.card_record.specs.declared.Card.{Card}
 use Rattle.card_record.specs.declared.Link.{Link}
 use Rattle.wire.proofs.FrameTheorems.{framing}
-use Rattle.store.specs.Map.{lentRight}
+use Rattle.store.specs.Lent.{Lent, Seen, seen, lendingOf, onceLent}
+use Rattle.store.specs.declared.Lending.{Lending}
+use Rattle.store.specs.declared.Lending.the-variants.{Right}
 use Rattle.wire.specs.Frames.{framingOf, checked}
 use Rattle.wire.specs.Frames as wire
 use Rattle.wire.specs.declared.Frame.the-variants.{Command}
@@ -37,46 +36,45 @@ use Rattle.wire.specs.declared.Framing.the-variants.{Framed, Unframed}
 use Rattle.demands.specs.Silenced.{Reads, Unlent}
 
 -- a frame at a card that is lent what is right for it
-pub judged-as : (card : Card) (wins : Bool) (frame : List ℕ) (memory : ℕ) (map : List ℕ) → lentRight memory map (card .registers .groups) ≡ true
-    → (framing : Framing) → framingOf frame ≡ framing → frameJudged card wins frame memory map ≡ framed card wins framing
+pub judged-as : (card : Card) (wins : Bool) (frame : List ℕ) (seen : Seen) → lendingOf seen (card .registers .groups) ≡ Right
+    → (framing : Framing) → framingOf frame ≡ framing → frameJudged card wins frame seen ≡ framed card wins framing
 unfolding frameJudged
-judged-as card wins frame memory map lent framing e =
-    ap (λ (t : Bool). unless t (frameRefused card (by 12)) (framed card wins (framingOf frame))) lent ∙ ap (framed card wins) e
+judged-as card wins frame seen right framing e =
+    ap (λ (l : Lending). onceLent l (frameRefused card) (framed card wins (framingOf frame))) right ∙ ap (framed card wins) e
 
-module _ (card : Card) (wins : Bool) (frame memory map out : List ℕ) (index argument : ℕ) (reads : Reads card frame memory map index argument) where
+module _ (card : Card) (wins : Bool) (frame : List ℕ) (lent : Lent) (out : List ℕ) (index argument : ℕ) (reads : Reads card frame lent index argument) where
   abbrev given : Commanded
   given = commandOf (card .link) (metBy card wins) index argument
 
-  judged : frameJudged card wins frame (length memory) map ≡ commanded card given
+  judged : frameJudged card wins frame (seen lent) ≡ commanded card given
   unfolding wire.frameOf
   judged =
-      judged-as card wins frame (length memory) map (reads .lent) (Framed index argument true) (framing (framingOf frame) index argument (reads .command))
+      judged-as card wins frame (seen lent) (reads .right) (Framed index argument true) (framing (framingOf frame) index argument (reads .command))
 
-  pub unlent : given .change ≡ Nothing → Unlent card wins frame memory map out given
+  pub unlent : given .change ≡ Nothing → Unlent card wins frame lent out given
   unfolding frameStepped
   unlent same =
-      let kept : frameJudged card wins frame (length memory) map .change ≡ Nothing = ap (λ (j : FrameJudged). j .change) judged ∙ same in
+      let kept : frameJudged card wins frame (seen lent) .change ≡ Nothing = ap (λ (j : FrameJudged). j .change) judged ∙ same in
       record {
         step =
-            ap (λ (c : Change). sparedTold (frameJudged card wins frame (length memory) map .stepped) (spares card (length memory) map c)) kept
+            ap (λ (c : Change). sparedTold (frameJudged card wins frame (seen lent) .stepped) (spares card (seen lent) c)) kept
             ∙ ap (λ (j : FrameJudged). j .stepped) judged;
-        memory-kept = ap (erasedBy card memory map) kept;
-        map-kept = ap (protectedBy map) kept;
+        lent-kept = ap (λ (c : Change). changedBy card c lent) kept;
         output-kept = refl;
       }
 
-  pub silenced-frame : (link : Link) → given ≡ silent link → Unlent card wins frame memory map out (silent link)
+  pub silenced-frame : (link : Link) → given ≡ silent link → Unlent card wins frame lent out (silent link)
   silenced-frame link e = rw e at (unlent (ap (λ (c : Commanded). c .change) e))
 
-  pub unchanged-frame : given ≡ silent (card .link) → stepOf card (Frame wins) frame (length memory) map (length out) ≡ done card
+  pub unchanged-frame : given ≡ silent (card .link) → stepOf card (Frame wins) frame (seen lent) (length out) ≡ done card
   unchanged-frame e = silenced-frame (card .link) e .step
 
-pub lost-frame : (card : Card) (frame memory map out : List ℕ) (argument : ℕ) → Reads card frame memory map 2 argument
-    → (stepOf card (Frame false) frame (length memory) map (length out) ≡ done card) × Unlent card false frame memory map out (silent (card .link))
-lost-frame card frame memory map out argument reads =
+pub lost-frame : (card : Card) (frame : List ℕ) (lent : Lent) (out : List ℕ) (argument : ℕ) → Reads card frame lent 2 argument
+    → (stepOf card (Frame false) frame (seen lent) (length out) ≡ done card) × Unlent card false frame lent out (silent (card .link))
+lost-frame card frame lent out argument reads =
     let unchanged = lost-unchanged card argument in (
-      unchanged-frame card false frame memory map out 2 argument reads unchanged,
-      silenced-frame card false frame memory map out 2 argument reads (card .link) unchanged,
+      unchanged-frame card false frame lent out 2 argument reads unchanged,
+      silenced-frame card false frame lent out 2 argument reads (card .link) unchanged,
     )
 
 -- ---- the verdict
@@ -87,8 +85,8 @@ module _ (card : Card) (v w : Bool) where
   framed-same (Framed index argument true) other =
       ap (commanded card) (any-wins card v w index argument (ne-eqb index 2 (λ e. other argument (ap (λ (k : ℕ). Command k argument) e))))
 
-  pub verdict-unread : (frame : List ℕ) (memory : ℕ) (map : List ℕ) → ((argument : ℕ) → wire.frameOf frame ≡ Command 2 argument → ⊥)
-      → frameJudged card v frame memory map ≡ frameJudged card w frame memory map
+  pub verdict-unread : (frame : List ℕ) (seen : Seen) → ((argument : ℕ) → wire.frameOf frame ≡ Command 2 argument → ⊥)
+      → frameJudged card v frame seen ≡ frameJudged card w frame seen
   unfolding frameJudged wire.frameOf
-  verdict-unread frame memory map other =
-      ap (unless (lentRight memory map (card .registers .groups)) (frameRefused card (by 12))) (framed-same (framingOf frame) other)
+  verdict-unread frame seen other =
+      ap (onceLent (lendingOf seen (card .registers .groups)) (frameRefused card)) (framed-same (framingOf frame) other)

@@ -6,14 +6,13 @@ use mathlib.Core.Bool.{Bool}
 use mathlib.Core.List.{List}
 use Prim.Native.Nat.{ℕ}
 use Rattle.base.proofs.Cases.{guarded}
-use Rattle.card.specs.BlockIn.{stateJudged, blockJudged}
-use Rattle.card.specs.BlockOut.{stateSends, outJudged}
-use Rattle.card.specs.Frame.{framed, frameJudged, frameStepped, spares, sparedTold}
+use Rattle.card.specs.BlockIn.{unread, stateJudged, blockJudged}
+use Rattle.card.specs.BlockOut.{unsent, stateSends, outJudged}
+use Rattle.card.specs.Frame.{FrameJudged, frameRefused, framed, frameJudged, frameStepped, spares, sparedTold}
 use Rattle.card.specs.Step.{stepOf}
 use Rattle.card.specs.declared.BlockJudged.{BlockJudged}
 use Rattle.card.specs.declared.Call.{Call}
 use Rattle.card.specs.declared.Call.the-variants.{Frame, BlockIn, BlockOut, WorkDone, PowerOn}
-use Rattle.card.specs.declared.FrameJudged.{FrameJudged}
 use Rattle.card.specs.declared.OutJudged.{OutJudged}
 use Rattle.command.specs.Command.{metBy, damagedLink}
 use Rattle.command.specs.declared.Change.{Change}
@@ -22,7 +21,8 @@ use Rattle.card_record.specs.Power.{worked}
 use Rattle.card_record.specs.declared.Card.{Card}
 use Rattle.states.specs.declared.State.{State}
 use Rattle.states.specs.declared.State.the-variants.{Ina}
-use Rattle.store.specs.Map.{lentRight}
+use Rattle.store.proofs.OnceLent.{once-lent}
+use Rattle.store.specs.Lent.{Seen}
 use Rattle.wire.specs.Frames.{framingOf}
 use Rattle.wire.specs.declared.Framing.{Framing}
 use Rattle.wire.specs.declared.Framing.the-variants.{Framed, Unframed}
@@ -39,22 +39,22 @@ module _ (card : Card) (ina : card .link .state ≡ Ina) where
   framed-stays wins (Framed index argument right) =
       guarded Stays right (λ t. (rw ina, refl)) (λ t. rw (check-1 (card .link) (metBy card wins) index argument ina) (refl, refl))
 
-  frame-stays : (wins : Bool) (input : List ℕ) (memory : ℕ) (map : List ℕ) → Stays (frameJudged card wins input memory map)
+  frame-stays : (wins : Bool) (input : List ℕ) (seen : Seen) → Stays (frameJudged card wins input seen)
   unfolding frameJudged
-  frame-stays wins input memory map =
-      guarded Stays (lentRight memory map (card .registers .groups)) (λ t. (refl, refl)) (λ t. framed-stays wins (framingOf input))
+  frame-stays wins input seen =
+      once-lent seen (card .registers .groups) Stays (frameRefused card) (refl, refl) (λ t. framed-stays wins (framingOf input))
 
-  pub inactive-ends : (call : Call) → (call ≡ PowerOn → ⊥) → (input : List ℕ) (memory : ℕ) (map : List ℕ) (room : ℕ)
-      → stepOf card call input memory map room .card ≡ card
+  pub inactive-ends : (call : Call) → (call ≡ PowerOn → ⊥) → (input : List ℕ) (seen : Seen) (room : ℕ)
+      → stepOf card call input seen room .card ≡ card
   unfolding frameStepped blockJudged outJudged worked
-  inactive-ends (Frame wins) other input memory map room =
-      let (same, kept) = frame-stays wins input memory map in
-      ap (λ (c : Change). sparedTold (frameJudged card wins input memory map .stepped) (spares card memory map c) .card) kept ∙ same
-  inactive-ends BlockIn other input memory map room =
-      guarded (λ (j : BlockJudged). j .stepped .card ≡ card) (lentRight memory map (card .registers .groups)) (λ t. refl)
-      (λ t. subst (λ (s : State). stateJudged card s input map .stepped .card ≡ card) (sym ina) refl)
-  inactive-ends BlockOut other input memory map room =
-      guarded (λ (j : OutJudged). j .stepped .card ≡ card) (lentRight memory map (card .registers .groups)) (λ t. refl)
+  inactive-ends (Frame wins) other input seen room =
+      let (same, kept) = frame-stays wins input seen in
+      ap (λ (c : Change). sparedTold (frameJudged card wins input seen .stepped) (spares card seen c) .card) kept ∙ same
+  inactive-ends BlockIn other input seen room =
+      once-lent seen (card .registers .groups) (λ (j : BlockJudged). j .stepped .card ≡ card) (unread card) refl
+      (λ t. subst (λ (s : State). stateJudged card s input (seen .map) .stepped .card ≡ card) (sym ina) refl)
+  inactive-ends BlockOut other input seen room =
+      once-lent seen (card .registers .groups) (λ (j : OutJudged). j .stepped .card ≡ card) (unsent card) refl
       (λ t. subst (λ (s : State). stateSends card s room .stepped .card ≡ card) (sym ina) refl)
-  inactive-ends WorkDone other input memory map room = rw ina
-  inactive-ends PowerOn other input memory map room = absurd (other refl)
+  inactive-ends WorkDone other input seen room = rw ina
+  inactive-ends PowerOn other input seen room = absurd (other refl)

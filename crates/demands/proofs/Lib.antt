@@ -1,7 +1,6 @@
 pub mod Blind
 pub mod Examples
 pub mod Faulted
-pub mod Faults
 pub mod Frames
 pub mod Inactive
 pub mod Refused

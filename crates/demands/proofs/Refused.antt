@@ -1,5 +1,5 @@
 -- Demand 1, refused by number: a refused call gives one of its numbers, leaves the record that document 01 names for that number, sends
--- nothing, and leaves memory, map and output as they were. For every record.
+-- nothing, and leaves what is lent and the output as they were. For every record.
 --   refused-by-number   the theorem
 --   named-keeps         the record that document 01 names has registers, lock, address, block length and tags as they were
 --   refused-keeps       so a refusal leaves them
@@ -14,21 +14,23 @@ use Rattle.base.proofs.Cases.{cases, picked, clash}
 use Rattle.base.specs.Refusals.{numberOf, refusalOf, by}
 use Rattle.base.specs.declared.Refusal.{Refusal}
 use Rattle.card.proofs.Outcomes.{Refuses as Awaited, wrong-length, wrong-crc, past-end, protected, failed, InOutcome, unreads, refuses, stores, grants, forces, OutOutcome, unsends, past, across, sends, FrameOutcome, unheard, damaged, commands, block-outcome, out-outcome, frame-outcome, told}
-use Rattle.card.specs.BlockIn.{afterRefused, withFault, blockRefused, blockGood, keptOf, storedBy, clearedBy}
+use Rattle.card.specs.BlockIn.{afterRefused, withFault, blockRefused, blockGood, storedBy}
 use Rattle.card.specs.BlockOut.{outRefused, outGood, sentOut}
-use Rattle.card.specs.Frame.{commanded, frameStepped, erasedBy, protectedBy, spares, sparedTold}
+use Rattle.card.specs.Frame.{FrameJudged, commanded, frameStepped, changedBy, spares, frameTold}
 use Rattle.card.specs.Replies.{refused}
 use Rattle.card.specs.Step.{stepOf}
 use Rattle.card.specs.declared.BlockJudged.{BlockJudged}
 use Rattle.card.specs.declared.Call.{Call}
 use Rattle.card.specs.declared.Call.the-variants.{Frame, BlockIn, BlockOut, WorkDone, PowerOn}
-use Rattle.card.specs.declared.FrameJudged.{FrameJudged}
 use Rattle.card.specs.declared.OutJudged.{OutJudged}
 use Rattle.card.specs.declared.Outcome.the-variants.{Done, Refused}
+use Rattle.card.specs.declared.Sending.{Sending}
 use Rattle.card.specs.declared.Sending.the-variants as sending
 use Rattle.card.specs.declared.Stepped.{Stepped}
+use Rattle.card.specs.declared.Storing.{Storing}
 use Rattle.card.specs.declared.Storing.the-variants as storing
 use Rattle.command.specs.Command.{metBy, damagedLink, commandOf}
+use Rattle.command.specs.declared.Change.{Change}
 use Rattle.command.specs.declared.Change.the-variants as change
 use Rattle.command.specs.declared.Commanded.{Commanded}
 use Rattle.command.specs.declared.Sent.the-variants.{Nothing}
@@ -44,6 +46,7 @@ use Rattle.states.specs.declared.State.the-variants.{Rcv}
 use Rattle.status.specs.ErrorBits.{errorBit}
 use Rattle.status.specs.declared.Fault.{Fault}
 use Rattle.status.specs.declared.Fault.the-variants.{None, Bit}
+use Rattle.store.specs.Lent.{Lent, Seen, seen}
 use Rattle.demands.specs.Refused.{numbers, named, Refuses, ByNumber, Keeps, inactive, givenUp, moved, noted, notedIn}
 
 -- a refused block gives up what was awaited as document 01 says
@@ -96,15 +99,15 @@ module _ (card : Card) (r : Refusal) where
     awaited-left protected e = up 19 (Bit (errorBit 26)) (left BlockIn 19 refl refl e)
     awaited-left failed e = up 20 (Bit (errorBit 24)) (left BlockIn 20 refl refl e)
 
-  in-left : (block : List ℕ) (memory : ℕ) (map : List ℕ) {j : BlockJudged} → InOutcome card block memory map j → j .stepped .reply .outcome ≡ Refused r
+  in-left : (block : List ℕ) (seen : Seen) {j : BlockJudged} → InOutcome card block seen j → j .stepped .reply .outcome ≡ Refused r
       → Left BlockIn (j .stepped) × (j .storing ≡ storing.Nothing)
   unfolding blockRefused blockGood
-  in-left block memory map (unreads n listed) e =
+  in-left block seen (unreads n listed) e =
       (each (Same BlockIn) (12 ∷ 15 ∷ []) (left BlockIn 12 refl refl, (left BlockIn 15 refl refl, tt)) n listed e, refl)
-  in-left block memory map (refuses incoming refusal fault on why) e = (awaited-left incoming on why e, refl)
-  in-left block memory map (stores incoming at w on right) e = clash cc
-  in-left block memory map (grants on granted) e = clash cc
-  in-left block memory map (forces on erased) e = clash cc
+  in-left block seen (refuses incoming refusal fault on why) e = (awaited-left incoming on why e, refl)
+  in-left block seen (stores incoming at w on right) e = clash cc
+  in-left block seen (grants on granted) e = clash cc
+  in-left block seen (forces on erased) e = clash cc
 
   -- ---- a block out
   out-left : {j : OutJudged} → OutOutcome card j → j .stepped .reply .outcome ≡ Refused r → Left BlockOut (j .stepped) × (j .sending ≡ sending.Nothing)
@@ -116,55 +119,51 @@ module _ (card : Card) (r : Refusal) where
   out-left (sends outgoing next n sending on within) e = clash cc
 
   -- ---- a frame
-  frame-left : (wins : Bool) (frame : List ℕ) (memory : ℕ) (map : List ℕ) {j : FrameJudged} → FrameOutcome card wins frame memory map j
-      → sparedTold (j .stepped) (spares card memory map (j .change)) .reply .outcome ≡ Refused r
-      → Left (Frame wins) (sparedTold (j .stepped) (spares card memory map (j .change))) × (j .change ≡ change.Nothing)
-  frame-left wins frame memory map (unheard n listed) e =
+  frame-left : (wins : Bool) (frame : List ℕ) (seen : Seen) {j : FrameJudged} → FrameOutcome card wins frame seen j
+      → frameTold card seen j .reply .outcome ≡ Refused r → Left (Frame wins) (frameTold card seen j) × (j .change ≡ change.Nothing)
+  frame-left wins frame seen (unheard n listed) e =
       (each (Same (Frame wins)) (12 ∷ 1 ∷ 2 ∷ []) (left (Frame wins) 12 refl refl, (left (Frame wins) 1 refl refl, (left (Frame wins) 2 refl refl, tt))) n listed e, refl)
-  frame-left wins frame memory map damaged e =
+  frame-left wins frame seen damaged e =
       (subst (λ (c : Card). Left (Frame wins) (refused c (by 3))) (sym (damage-named card wins)) (left (Frame wins) 3 refl refl e), refl)
-  frame-left wins frame memory map (commands index argument is lent) e =
+  frame-left wins frame seen (commands index argument is lent) e =
       let given : Commanded = commandOf (card .link) (metBy card wins) index argument in
-      let done : sparedTold (commanded card given .stepped) (spares card memory map (given .change)) .reply .outcome ≡ Done =
-      told (λ (s : Stepped). s .reply .outcome ≡ Done) (commanded card given .stepped) (spares card memory map (given .change)) refl refl
+      let done : frameTold card seen (commanded card given) .reply .outcome ≡ Done =
+      told (λ (s : Stepped). s .reply .outcome ≡ Done) (commanded card given .stepped) (spares card seen (given .change)) refl refl
       in
       clash cc
 
-pub refused-by-number : (card : Card) (call : Call) (input memory map out : List ℕ) (r : Refusal)
-    → Refuses card call input memory map out r → ByNumber card call input memory map out r
+pub refused-by-number : (card : Card) (call : Call) (input : List ℕ) (lent : Lent) (out : List ℕ) (r : Refusal)
+    → Refuses card call input lent out r → ByNumber card call input lent out r
 unfolding frameStepped
-refused-by-number card (Frame wins) input memory map out r e =
-    let (l, same) = frame-left card r wins input (length memory) map (frame-outcome card wins input (length memory) map) e in
+refused-by-number card (Frame wins) input lent out r e =
+    let (l, same) = frame-left card r wins input (seen lent) (frame-outcome card wins input (seen lent)) e in
     record {
       number = l .number;
       next = l .next;
       unsent = l .unsent;
-      memory-kept = ap (erasedBy card memory map) same;
-      map-kept = ap (protectedBy map) same;
+      lent-kept = ap (λ (c : Change). changedBy card c lent) same;
       output-kept = refl;
     }
-refused-by-number card BlockIn input memory map out r e =
-    let (l, same) = in-left card r input (length memory) map (block-outcome card input (length memory) map) e in
+refused-by-number card BlockIn input lent out r e =
+    let (l, same) = in-left card r input (seen lent) (block-outcome card input (seen lent)) e in
     record {
       number = l .number;
       next = l .next;
       unsent = l .unsent;
-      memory-kept = ap (storedBy (keptOf input) memory) same;
-      map-kept = ap (clearedBy map) same;
+      lent-kept = ap (λ (s : Storing). storedBy input s lent) same;
       output-kept = refl;
     }
-refused-by-number card BlockOut input memory map out r e =
-    let (l, same) = out-left card r (out-outcome card (length memory) map (length out)) e in
+refused-by-number card BlockOut input lent out r e =
+    let (l, same) = out-left card r (out-outcome card (seen lent) (length out)) e in
     record {
       number = l .number;
       next = l .next;
       unsent = l .unsent;
-      memory-kept = refl;
-      map-kept = refl;
-      output-kept = ap (sentOut memory map out) same;
+      lent-kept = refl;
+      output-kept = ap (λ (s : Sending). sentOut lent s out) same;
     }
-refused-by-number card WorkDone input memory map out r e = clash cc
-refused-by-number card PowerOn input memory map out r e = clash cc
+refused-by-number card WorkDone input lent out r e = clash cc
+refused-by-number card PowerOn input lent out r e = clash cc
 
 module _ (card : Card) where
   abbrev Kept : Card → Type 0
@@ -196,7 +195,7 @@ module _ (card : Card) where
   named-keeps WorkDone n = same-keeps
   named-keeps PowerOn n = same-keeps
 
-pub refused-keeps : (card : Card) (call : Call) (input memory map out : List ℕ) (r : Refusal)
-    → Refuses card call input memory map out r → Keeps card (stepOf card call input (length memory) map (length out) .card)
-refused-keeps card call input memory map out r e =
-    subst (Keeps card) (sym (refused-by-number card call input memory map out r e .next)) (named-keeps card call (numberOf r))
+pub refused-keeps : (card : Card) (call : Call) (input : List ℕ) (lent : Lent) (out : List ℕ) (r : Refusal)
+    → Refuses card call input lent out r → Keeps card (stepOf card call input (seen lent) (length out) .card)
+refused-keeps card call input lent out r e =
+    subst (Keeps card) (sym (refused-by-number card call input lent out r e .next)) (named-keeps card call (numberOf r))

@@ -10,7 +10,7 @@ use lib.ListN.{length}
 use Rattle.base.specs.Choice.{pick}
 use Rattle.base.specs.Refusals.{numberOf}
 use Rattle.base.specs.declared.Refusal.{Refusal}
-use Rattle.card.specs.Step.{stepOf, memoryOf, mapOf, outputOf}
+use Rattle.card.specs.Step.{stepOf, lentAfter, outputOf}
 use Rattle.card.specs.declared.Call.{Call}
 use Rattle.card.specs.declared.Call.the-variants.{Frame, BlockIn, BlockOut, WorkDone, PowerOn}
 use Rattle.card.specs.declared.Outcome.the-variants.{Refused}
@@ -26,6 +26,7 @@ use Rattle.states.specs.declared.State.{State}
 use Rattle.states.specs.declared.State.the-variants.{Idle, Ready, Ident, Stby, Tran, Data, Rcv, Prg, Dis, Ina}
 use Rattle.status.specs.ErrorBits.{errorBitAt}
 use Rattle.status.specs.Status.{withBit}
+use Rattle.store.specs.Lent.{Lent, seen}
 
 -- "Block in: 12, 15, 16, 17, 18, 19 or 20. Block out: 12, 15, 6, 18, 21. Frame: 1, 2, 3; at a card 12 comes first"; "Work done .. is never
 -- refused", and neither is power-on
@@ -87,19 +88,18 @@ named BlockOut number card = namedOut number card
 named WorkDone number card = card
 named PowerOn number card = card
 
-module _ (card : Card) (call : Call) (input memory map out : List ℕ) where
+module _ (card : Card) (call : Call) (input : List ℕ) (lent : Lent) (out : List ℕ) where
   -- the call is refused
   abbrev pub Refuses : Refusal → Type 0
-  Refuses refusal = stepOf card call input (length memory) map (length out) .reply .outcome ≡ Refused refusal
+  Refuses refusal = stepOf card call input (seen lent) (length out) .reply .outcome ≡ Refused refusal
 
   -- "Refusals give a number and no value": one of the call's numbers, the record that is named for it, and everything lent as it was
   pub record ByNumber (refusal : Refusal) : Type 0 where
     pub number : among (numberOf refusal) (numbers call) ≡ true
-    pub next : stepOf card call input (length memory) map (length out) .card ≡ named call (numberOf refusal) card
-    pub unsent : stepOf card call input (length memory) map (length out) .reply .sent ≡ Nothing
-    pub memory-kept : memoryOf card call input memory map ≡ memory
-    pub map-kept : mapOf card call input (length memory) map ≡ map
-    pub output-kept : outputOf card call memory map out ≡ out
+    pub next : stepOf card call input (seen lent) (length out) .card ≡ named call (numberOf refusal) card
+    pub unsent : stepOf card call input (seen lent) (length out) .reply .sent ≡ Nothing
+    pub lent-kept : lentAfter card call input lent ≡ lent
+    pub output-kept : outputOf card call lent out ≡ out
 
 -- what no refusal changes
 pub record Keeps (card next : Card) : Type 0 where

@@ -8,7 +8,7 @@ use lib.Dec.{eqb}
 use lib.ListN.{length}
 use Rattle.base.specs.Choice.{pick}
 use Rattle.card.specs.Replies.{replied}
-use Rattle.card.specs.Step.{stepOf, memoryOf, mapOf, outputOf}
+use Rattle.card.specs.Step.{stepOf, lentAfter, outputOf}
 use Rattle.card.specs.declared.Call.the-variants.{Frame}
 use Rattle.card.specs.declared.Outcome.the-variants.{Done}
 use Rattle.command.specs.Answers.{silent}
@@ -29,7 +29,8 @@ use Rattle.states.specs.declared.Column.{Column}
 use Rattle.states.specs.declared.Column.the-variants.{Idle, Ready, Ident, Tran, Data, Rcv, Prg}
 use Rattle.status.specs.ErrorBits.{errorBit}
 use Rattle.status.specs.Status.{withBit}
-use Rattle.store.specs.Map.{lentRight}
+use Rattle.store.specs.Lent.{Lent, seen, lendingOf}
+use Rattle.store.specs.declared.Lending.the-variants.{Right}
 use Rattle.wire.specs.Frames.{frameOf}
 use Rattle.wire.specs.declared.Frame.the-variants.{Command}
 
@@ -89,13 +90,12 @@ module _ (link : Link) (met : Met) (index argument : ℕ) where
     pub stuck : noneFrom (columnOf (link .state)) (legal row) ≡ true
 
 -- a frame that is no refusal: "Frame: 1, 2, 3; at a card 12 comes first"
-pub record Reads (card : Card) (frame memory map : List ℕ) (index argument : ℕ) : Type 0 where
-  pub lent : lentRight (length memory) map (card .registers .groups) ≡ true
+pub record Reads (card : Card) (frame : List ℕ) (lent : Lent) (index argument : ℕ) : Type 0 where
+  pub right : lendingOf (seen lent) (card .registers .groups) ≡ Right
   pub command : frameOf frame ≡ Command index argument
 
 -- a frame whose command leaves this, and that changes no lent byte
-pub record Unlent (card : Card) (wins : Bool) (frame memory map out : List ℕ) (given : Commanded) : Type 0 where
-  pub step : stepOf card (Frame wins) frame (length memory) map (length out) ≡ replied (withLink card (given .link)) Done (given .sent)
-  pub memory-kept : memoryOf card (Frame wins) frame memory map ≡ memory
-  pub map-kept : mapOf card (Frame wins) frame (length memory) map ≡ map
-  pub output-kept : outputOf card (Frame wins) memory map out ≡ out
+pub record Unlent (card : Card) (wins : Bool) (frame : List ℕ) (lent : Lent) (out : List ℕ) (given : Commanded) : Type 0 where
+  pub step : stepOf card (Frame wins) frame (seen lent) (length out) ≡ replied (withLink card (given .link)) Done (given .sent)
+  pub lent-kept : lentAfter card (Frame wins) frame lent ≡ lent
+  pub output-kept : outputOf card (Frame wins) lent out ≡ out

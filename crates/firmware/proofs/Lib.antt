@@ -1,3 +1,5 @@
 pub mod Kept
+pub mod Left
 pub mod Sends
+pub mod Told
 pub mod WrongAnswers

@@ -1,32 +1,28 @@
 -- What a card sends in answer to a frame always fits 17 bytes: an R1 has an index of 6 bits.
---   frame-sendable
+--   framed-index     a frame that was read has such an index
+--   heard-sendable   and so what is sent can be written
 -- Assumes nothing.
-use mathlib.Core.Bool.{Bool}
+use mathlib.Core.Path.{_≡_, ap}
+use mathlib.Core.Bool.{Bool, true}
 use mathlib.Core.List.{List}
 use Prim.Native.Nat.{ℕ, _≤_}
 use native.Mathlib.Omega.{arith}
+use Rattle.card.specs.Frame.{commandHeard}
+use Rattle.card_record.specs.declared.Link.{Link}
 use Rattle.command.proofs.Sends.{sendable}
-use Rattle.card.proofs.Outcomes.{FrameOutcome, unheard, damaged, commands, frame-outcome, told}
-use Rattle.card.specs.Frame.{frameJudged, spares, frameStepped}
-use Rattle.command.specs.Command.{metBy}
 use Rattle.command.specs.Sending.{Sendable}
-use Rattle.card.specs.declared.FrameJudged.{FrameJudged}
-use Rattle.card.specs.declared.Stepped.{Stepped}
+use Rattle.command.specs.declared.Met.{Met}
 use Rattle.crc.specs.Bits.{Below}
-use Rattle.card_record.specs.declared.Card.{Card}
+use Rattle.store.specs.Lent.{Seen}
 use Rattle.wire.proofs.FrameTheorems.{write-after-read}
+use Rattle.wire.specs.Frames.{framingOf, checked, frameOf}
+use Rattle.wire.specs.declared.Framing.the-variants.{Framed}
 
-module _ (card : Card) (wins : Bool) (frame : List ℕ) (memory : ℕ) (map : List ℕ) (bytes : Below 256 frame) where
-  judged-sendable : {judged : FrameJudged} → FrameOutcome card wins frame memory map judged → Sendable (judged .stepped .reply .sent)
-  judged-sendable (unheard n listed) = tt
-  judged-sendable damaged = tt
-  judged-sendable (commands index argument is lent) =
-      let small : index ≤ 63 = omega (arith, write-after-read frame bytes index argument is .0) in
-      sendable (card .link) (metBy card wins) index argument small
+pub framed-index : (frame : List ℕ) → Below 256 frame → (index argument : ℕ) → framingOf frame ≡ Framed index argument true → index ≤ 63
+unfolding frameOf
+framed-index frame bytes index argument e = omega (arith, write-after-read frame bytes index argument (ap checked e) .0)
 
-  pub frame-sendable : Sendable (frameStepped card wins frame memory map .reply .sent)
-  unfolding frameStepped
-  frame-sendable =
-      let same = judged-sendable (frame-outcome card wins frame memory map) in
-      told (λ (s : Stepped). Sendable (s .reply .sent)) (frameJudged card wins frame memory map .stepped)
-      (spares card memory map (frameJudged card wins frame memory map .change)) same same
+pub heard-sendable : (link : Link) (met : Met) (whole : Bool) (index argument : ℕ) (of : Seen) → index ≤ 63
+    → Sendable (commandHeard link met whole index argument of .sent)
+unfolding commandHeard
+heard-sendable link met whole index argument of small = sendable link met index argument small

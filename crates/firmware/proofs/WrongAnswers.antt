@@ -12,36 +12,43 @@
 --   power-inactive         power-on that leaves the number of Inactive
 --   power-keeps-tags       power-on that leaves the number of tags
 --   worked-prg, worked-dis work done that leaves prg, or takes dis to tran
+--   worked-rewritten       a state of no name rewritten by work done
 --   refused-told-bytes     bytes told of a block that was refused
 --   sent-told-as-refused   a number for a block that went out
+--   password-untold        the password left as it was by a request that sets one
 --   sent-unfinished        a card that is still to send CMD30's block when it has gone out
 --   won-by-256             a line that was won read as lost, by the low bits of what C says
 --   lost-by-0              one that was lost read as won
 --   refused-rewritten      numbers of no record rewritten by a call that is refused and changes nothing
 --   damage-not-told        the numbers left as they were by a damaged frame, which sets bit 23
+--   lock-rewritten         a flag of 2 rewritten by a frame, which changes no lock
 -- Assumes nothing.
-use mathlib.Core.Path.{_≡_, sym}
+use mathlib.Core.Path.{_≡_, sym, ap}
 use mathlib.Core.Bool.{true, false}
-use mathlib.Core.List.{List, [], _∷_}
+use mathlib.Core.List.{List, [], _∷_, _++_}
 use Prim.Native.Nat.{ℕ}
 use native.Mathlib.Omega.{arith}
 use lib.ListN.{getD, replicate}
 use Rattle.base.proofs.Cases.{never}
 use Rattle.base.specs.Refusals.{by}
 use Rattle.base.specs.declared.Written.the-variants.{Bytes, Refused as NotWritten}
+use Rattle.card.specs.BlockIn.{blockGood, requestJudged, awaitedJudged, blockJudged}
 use Rattle.card.specs.BlockOut.{outGood, protectionJudged, outJudged}
 use Rattle.card.specs.declared.Outcome.the-variants.{Wrote, Refused as Unsent}
 use Rattle.command.specs.Command.{damagedLink}
 use Rattle.crc.specs.Bits.{bits}
 use Rattle.crc.specs.Crc.{divide, remainder, checkSum, crc7, crc16}
-use Rattle.crossing.specs.Record.{stateOf, cardOf, numbersOf}
-use Rattle.card_record.specs.Power.{freshLink, poweredOn, worked}
-use Rattle.card_record.specs.Record.{withLink}
+use Rattle.crossing.specs.Record.{stateOf, linkOf, lockOf, registersOf, cardOf, linkNumbers, lockNumbers}
+use Rattle.lock.specs.Passwords.{stored, same, holding}
+use Rattle.lock.specs.Requests.{passwordIn, oldOf, newOf, settable, requestOf}
+use Rattle.card_record.specs.Power.{freshLink, poweredOn}
 use Rattle.card_record.specs.declared.Card.{Card}
+use Rattle.store.specs.Lent.{seenOf}
 use Rattle.store.specs.Map.{entriesRight}
+use Rattle.wire.specs.Blocks.{blockOf}
 use Rattle.wire.specs.declared.Checked.the-variants.{Refused as NotChecked}
 use Rattle.wire.specs.declared.Frame.the-variants.{Command, Refused}
-use Rattle.firmware.specs.Answers.{outcomeNumber, numbersAfter, wonBy, wroteOf}
+use Rattle.firmware.specs.Answers.{outcomeNumber, fronted, numbersAfter, workedNumber, wonBy, wroteOf}
 use Rattle.firmware.specs.Numbers.{writtenNumber, checkedNumber, indexRead, argumentRead}
 
 index-not-told : indexRead (Command 17 0x12345) 0 ≡ 0 → ⊥
@@ -83,25 +90,26 @@ numbered state at = state ∷ at ∷ 7 ∷ 16 ∷ 0 ∷ 1 ∷ 3 ∷ 0 ∷ 0 ∷ 
 abbrev card : ℕ → Card
 card state = cardOf (numbered state 0) (replicate 16 0) (replicate 16 0) (replicate 16 0)
 
--- a number of a record, by its place
-abbrev at : ℕ → Card → ℕ
-at place next = getD (numbersOf next) place 0
+-- what power-on leaves of its numbers
+abbrev powered : ℕ → List ℕ
+powered state = fronted (linkNumbers (poweredOn (card state) .link) ++ lockNumbers (poweredOn (card state) .lock)) (numbered state 0)
 
-power-inactive : at 0 (poweredOn (card 13)) ≡ 13 → ⊥
-unfolding numbersOf poweredOn freshLink
+power-inactive : getD (powered 13) 0 0 ≡ 13 → ⊥
+unfolding linkNumbers poweredOn freshLink
 power-inactive e = omega arith
 
-power-keeps-tags : at 5 (poweredOn (card 4)) ≡ 1 → ⊥
-unfolding numbersOf poweredOn freshLink
+power-keeps-tags : getD (powered 4) 5 0 ≡ 1 → ⊥
+unfolding linkNumbers poweredOn freshLink
 power-keeps-tags e = omega arith
 
-worked-prg : at 0 (worked (card 11)) ≡ 11 → ⊥
-unfolding numbersOf worked cardOf stateOf
+worked-prg : workedNumber 11 ≡ 11 → ⊥
 worked-prg e = omega arith
 
-worked-dis : at 0 (worked (card 12)) ≡ 4 → ⊥
-unfolding numbersOf worked cardOf stateOf
+worked-dis : workedNumber 12 ≡ 4 → ⊥
 worked-dis e = omega arith
+
+worked-rewritten : workedNumber 99 ≡ 13 → ⊥
+worked-rewritten e = omega arith
 
 refused-told-bytes : wroteOf (Unsent (by 18)) ≡ 514 → ⊥
 refused-told-bytes e = omega arith
@@ -109,8 +117,14 @@ refused-told-bytes e = omega arith
 sent-told-as-refused : outcomeNumber (Wrote 6) ≡ 6 → ⊥
 sent-told-as-refused e = omega arith
 
-sent-unfinished : at 0 (outJudged (card 7) 8192 (0 ∷ []) 6 .stepped .card) ≡ 7 → ⊥
-unfolding numbersOf outJudged protectionJudged outGood cardOf stateOf entriesRight
+-- a lock request of three bytes at a card with no password: set one of one byte, 9
+password-untold : blockJudged (cardOf (10 ∷ 0 ∷ 7 ∷ 3 ∷ 0 ∷ 0 ∷ 0 ∷ 0 ∷ 0 ∷ 0 ∷ 1 ∷ 0 ∷ []) (replicate 16 0) (replicate 16 0) (replicate 16 0))
+    (blockOf (1 ∷ 1 ∷ 9 ∷ [])) (seenOf 8192 (0 ∷ [])) .stepped .card .lock .password ≡ replicate 16 0 → ⊥
+unfolding blockJudged awaitedJudged requestJudged requestOf settable oldOf newOf passwordIn stored same holding blockGood blockOf crc16 checkSum remainder divide bits cardOf linkOf lockOf registersOf stateOf entriesRight
+password-untold e = let z : _≡_ {A = ℕ} 9 0 = ap (λ (l : List ℕ). getD l 0 0) e in omega arith
+
+sent-unfinished : getD (linkNumbers (outJudged (card 7) (seenOf 8192 (0 ∷ [])) 6 .stepped .card .link)) 0 0 ≡ 7 → ⊥
+unfolding linkNumbers outJudged protectionJudged outGood cardOf linkOf registersOf stateOf entriesRight
 sent-unfinished e = omega arith
 
 won-by-256 : wonBy 256 ≡ false → ⊥
@@ -120,9 +134,13 @@ lost-by-0 : wonBy 0 ≡ true → ⊥
 lost-by-0 e = never e
 
 -- a card in tran carries no place: 99 stands for nothing there, and stays
-refused-rewritten : getD (numbersAfter 15 (numbered 4 99) (card 4)) 1 0 ≡ 0 → ⊥
+refused-rewritten : getD (numbersAfter 15 (linkNumbers (card 4 .link)) (numbered 4 99)) 1 0 ≡ 0 → ⊥
 refused-rewritten e = omega arith
 
-damage-not-told : getD (numbersAfter 3 (numbered 4 0) (withLink (card 4) (damagedLink (card 4 .link)))) 4 0 ≡ 0 → ⊥
-unfolding numbersOf damagedLink cardOf stateOf
+damage-not-told : getD (numbersAfter 3 (linkNumbers (damagedLink (card 4 .link))) (numbered 4 0)) 4 0 ≡ 0 → ⊥
+unfolding linkNumbers damagedLink cardOf linkOf stateOf
 damage-not-told e = omega arith
+
+lock-rewritten : getD (numbersAfter 0 (linkNumbers freshLink) (replicate 12 2)) 8 0 ≡ 1 → ⊥
+unfolding linkNumbers freshLink
+lock-rewritten e = omega arith

@@ -1,18 +1,19 @@
 -- What a call at a card tells C: its number, the twelve numbers of the record, and how many bytes it wrote.
 -- Assumes nothing.
-use mathlib.Core.Bool.{Bool, false, not}
-use mathlib.Core.List.{List, _++_}
+use mathlib.Core.Bool.{Bool, not}
+use mathlib.Core.List.{List, [], _∷_, _++_}
 use Prim.Native.Nat.{ℕ}
-use lib.Dec.{eqb, ltb}
-use lib.ListN.{length, drop}
+use lib.Dec.{eqb}
+use lib.ListN.{length, drop, getD}
 use Rattle.base.specs.Choice.{pick}
 use Rattle.base.specs.Refusals.{numberOf}
 use Rattle.card.specs.declared.Outcome.{Outcome}
 use Rattle.card.specs.declared.Outcome.the-variants.{Done, Wrote, Refused}
-use Rattle.card_record.specs.declared.Card.{Card}
 use Rattle.card_record.specs.declared.Making.{Making}
 use Rattle.card_record.specs.declared.Making.the-variants.{Done as Made, Refused as NotMade}
-use Rattle.crossing.specs.Record.{numbersOf}
+use Rattle.command.specs.declared.Met.{Met}
+use Rattle.crossing.specs.Record.{groupsOf, lockedOf}
+use Rattle.moves.specs.Indices.{among}
 
 -- 0 for a call that was carried out, else the number of its refusal
 abbrev pub outcomeNumber : Outcome → ℕ
@@ -24,15 +25,28 @@ outcomeNumber (Refused refusal) = numberOf refusal
 abbrev pub wonBy : ℕ → Bool
 wonBy won = not (eqb won 0)
 
--- whether a call that answers this number has left the record as it was: one that is refused, but "3 sets bit 23 of the card .. 16 to 21 at a
--- card act as told below"
-abbrev pub leavesRecord : ℕ → Bool
-leavesRecord number = pick (eqb number 0) false (pick (eqb number 3) false (ltb number 16))
+-- what a command meets beside the link, at the card that numbers stand for
+abbrev pub metAt : List ℕ → Bool → Met
+metAt numbers wins = record { ocr = getD numbers 11 0; groups = groupsOf numbers; locked = lockedOf numbers; wins = wins }
 
--- the twelve numbers after a call that answers this number, and the next record: they are this record's, and where the record was left those that
--- were lent, also where these are wider than their fields or stand for nothing
-abbrev pub numbersAfter : ℕ → List ℕ → Card → List ℕ
-numbersAfter number before next = pick (leavesRecord number) before (numbersOf next)
+-- bytes or numbers at the front of what was lent, and the rest of it as it was: "Output past the answer's end is never written"
+abbrev pub fronted : List ℕ → List ℕ → List ℕ
+fronted told before = told ++ drop (length told) before
+
+-- whether a call at a card that answers this number has left the record as it was: "Nothing changes in the record .. except: 3 sets bit 23 of
+-- the card .. 16 to 21 at a card act as told below"
+abbrev pub leavesRecord : ℕ → Bool
+leavesRecord number = among number (1 ∷ 2 ∷ 6 ∷ 12 ∷ 15 ∷ [])
+
+-- the twelve numbers after a call that answers this number: at their front those that it tells, which is what it may change, and behind them
+-- those that were lent. What is not told keeps its form, also where it is wider than its field or stands for nothing; so do all of them where
+-- the record was left
+abbrev pub numbersAfter : ℕ → List ℕ → List ℕ → List ℕ
+numbersAfter number told before = pick (leavesRecord number) before (fronted told before)
+
+-- the state's number when work is done: "prg to tran and dis to stby, and .. no other"
+abbrev pub workedNumber : ℕ → ℕ
+workedNumber number = pick (eqb number 11) 4 (pick (eqb number 12) 3 number)
 
 abbrev pub makingNumber : Making → ℕ
 makingNumber Made = 0
@@ -43,7 +57,3 @@ abbrev pub wroteOf : Outcome → ℕ
 wroteOf Done = 0
 wroteOf (Wrote n) = n
 wroteOf (Refused refusal) = 0
-
--- bytes at the front of an output, and the rest of it as it was: "Output past the answer's end is never written"
-abbrev pub fronted : List ℕ → List ℕ → List ℕ
-fronted bytes out = bytes ++ drop (length bytes) out

@@ -1,11 +1,8 @@
 // What a call at a card tells C beside the record.
 use card::Outcome;
-use card_record::Card;
 use card_record::Making;
-use crossing::numbers_of;
 ghost use mathlib.Core.Path.{_≡_};
-ghost use Rattle.crossing.specs.Record.{cardOf, numbersOf};
-ghost use Rattle.firmware.specs.Answers.{outcomeNumber, makingNumber, leavesRecord, numbersAfter, wroteOf};
+ghost use Rattle.firmware.specs.Answers.{outcomeNumber, makingNumber, leavesRecord, wroteOf};
 
 // The number of what became of a call.
 pub fn outcome_number(outcome: Outcome) -> u8
@@ -18,31 +15,27 @@ pub fn outcome_number(outcome: Outcome) -> u8
     }
 }
 
-// Whether a call that answers this number has left the record as it was.
-fn leaves_record(number: u8) -> bool
-    ensures { λ r. ⌜ r ≡ leavesRecord number ⌝ }
+// Whether a call that answers this number has left the record as it was: its numbers are then left,
+// too, also where they are wider than their fields or stand for nothing.
+pub fn leaves_record(number: u8) -> bool
+    ensures answer { λ r. ⌜ r ≡ leavesRecord number ⌝ }
 {
-    if number == 0 {
-        return false;
+    if number == 1 {
+        return true;
     }
-    if number == 3 {
-        return false;
+    if number == 2 {
+        return true;
     }
-    number < 16
-}
-
-// The numbers of the next record, told where the record was not left as it was: lent numbers that
-// are wider than their fields, or stand for nothing, keep their form. That a record's numbers stand
-// for it is handed on from `numbers_of`.
-pub fn tell_numbers(number: u8, next: Card, numbers: &mut [u32; 12])
-    ensures numbers { λ _. ⌜ now (numbers .exit) ≡ numbersAfter number (now (numbers .entry)) next ⌝ }
-    ensures crossing { λ _. ⌜ cardOf (numbersOf next) (next .registers .cid) (next .registers .csd) (next .lock .password) ≡ next ⌝ }
-{
-    let told = numbers_of(next);
-    if leaves_record(number) {
-        return;
+    if number == 6 {
+        return true;
     }
-    *numbers = told;
+    if number == 12 {
+        return true;
+    }
+    if number == 15 {
+        return true;
+    }
+    false
 }
 
 // The number of what became of a make.

@@ -1,27 +1,19 @@
-// The calls of one card for C. A record crosses in four parts, which mmc.h puts together as one:
-// twelve numbers, and the bytes of the CID, the CSD and the password. Each call takes the record
-// that they stand for (crates/crossing), calls the card, and tells the next one. Its promise says
-// all that it leaves: its number, each lent number and byte, and that the parts then stand for the
-// card's next record, so that a row of calls from C is the same row at the card.
+// The calls of one card for C that are never given a frame or a block. A record crosses in four parts,
+// which mmc.h puts together as one: twelve numbers, and the bytes of the CID, the CSD and the password
+// (crates/crossing). The promise of each call of a card says all that it leaves: its number, each lent
+// number and byte, and that the parts then stand for the card's next record, so that a row of calls
+// from C is the same row at the card.
 use crate::answers::making_number;
-use crate::answers::outcome_number;
-use crate::answers::tell_numbers;
-use crate::answers::wrote;
-use base::Written;
-use card_record::Registers;
-use command::Sent;
 use crossing::card_of;
-use crossing::numbers_of;
+use crossing::tell_card;
+use crossing::tell_link_and_lock;
+ghost use mathlib.Core.List.{_++_};
 ghost use mathlib.Core.Path.{_≡_};
-ghost use lib.ListN.{length};
-ghost use Rattle.card.specs.BlockIn.{blockJudged, keptOf, storedBy, clearedBy};
-ghost use Rattle.card.specs.BlockOut.{outJudged, sentOut};
-ghost use Rattle.card.specs.Frame.{frameStepped, frameJudged, erasedBy, protectedBy};
-ghost use Rattle.command.specs.Sending.{sentBytes, Sendable};
-ghost use Rattle.crossing.specs.Record.{cardOf, numbersOf};
+ghost use lib.ListN.{length, getD, set};
+ghost use Rattle.crossing.specs.Record.{cardOf, linkNumbers, lockNumbers, numbersOf};
 ghost use Rattle.card_record.specs.Making.{madeOf};
 ghost use Rattle.card_record.specs.Power.{poweredOn, worked};
-ghost use Rattle.firmware.specs.Answers.{outcomeNumber, makingNumber, numbersAfter, wonBy, wroteOf, fronted};
+ghost use Rattle.firmware.specs.Answers.{makingNumber, workedNumber, fronted};
 
 // A card made: 7, 8, 9, 10, 11. A refused make leaves the one record that document 01 lets it
 // leave, Inactive and all zeros.
@@ -56,7 +48,7 @@ pub extern "C" fn mmc_parts_make(
     let made_cid = registers.cid;
     let made_csd = registers.csd;
     let made_password = lock.password;
-    *numbers = numbers_of(card);
+    tell_card(card, numbers);
     *cid = made_cid;
     *csd = made_csd;
     *password = made_password;
@@ -73,15 +65,17 @@ pub extern "C" fn mmc_parts_power_on(
 )
     ensures left { λ _.
         let next = poweredOn (cardOf (now (numbers .entry)) (now (cid .entry)) (now (csd .entry)) (now (password .entry))) in
-        ⌜ (now (numbers .exit) ≡ numbersOf next)
+        ⌜ (now (numbers .exit) ≡ fronted (linkNumbers (next .link) ++ lockNumbers (next .lock)) (now (numbers .entry)))
         × (cardOf (now (numbers .exit)) (now (cid .entry)) (now (csd .entry)) (now (password .entry)) ≡ next) ⌝ }
 {
     let card = card_of(*numbers, *cid, *csd, *password);
     let next = card_record::power_on(card);
-    *numbers = numbers_of(next);
+    let link = next.link;
+    let lock = next.lock;
+    tell_link_and_lock(link, lock, numbers);
 }
 
-// Work done: never refused.
+// Work done: never refused. The state's number is altered in its place, and no record taken in.
 #[no_mangle]
 pub extern "C" fn mmc_parts_work_done(
     numbers: &mut [u32; 12],
@@ -91,134 +85,13 @@ pub extern "C" fn mmc_parts_work_done(
 )
     ensures left { λ _.
         let next = worked (cardOf (now (numbers .entry)) (now (cid .entry)) (now (csd .entry)) (now (password .entry))) in
-        ⌜ (now (numbers .exit) ≡ numbersOf next)
+        ⌜ (now (numbers .exit) ≡ set (now (numbers .entry)) 0 (workedNumber (getD (now (numbers .entry)) 0 0)))
         × (cardOf (now (numbers .exit)) (now (cid .entry)) (now (csd .entry)) (now (password .entry)) ≡ next) ⌝ }
 {
-    let card = card_of(*numbers, *cid, *csd, *password);
-    let next = card_record::work_done(card);
-    *numbers = numbers_of(next);
-}
-
-// What a card sends, written to the front of an answer: the longest fits. The answer is how many
-// bytes it is.
-fn send(registers: Registers, sent: Sent, out: &mut [u8; 17]) -> usize
-    requires { ⌜ Sendable sent ⌝ }
-    ensures answer { λ r. ⌜ r ≡ length (sentBytes registers sent) ⌝ }
-    ensures output { λ _. ⌜ now (out .exit) ≡ fronted (sentBytes registers sent) (now (out .entry)) ⌝ }
-{
-    let written = command::write_sent(registers, sent, out);
-    match written {
-        Written::Bytes(n) => n,
-        Written::Refused(_) => 0,
+    // prg to tran, dis to stby.
+    match numbers[0] {
+        11 => numbers[0] = 4,
+        12 => numbers[0] = 3,
+        _ => {}
     }
-}
-
-// A frame: 12, 1, 2, 3. `won` says whether the unit won the line, as a unit that is alone on its line
-// does: 0 that it lost, which CMD2 alone asks. What the card sends goes to the front of `answer`,
-// which is as long as the longest answer, and how many bytes it sends to `sent`.
-#[no_mangle]
-pub extern "C" fn mmc_parts_frame(
-    numbers: &mut [u32; 12],
-    cid: &[u8; 16],
-    csd: &[u8; 16],
-    password: &[u8; 16],
-    won: u32,
-    frame: &[u8],
-    memory: &mut [u8],
-    map: &mut [u8],
-    answer: &mut [u8; 17],
-    sent: &mut usize,
-) -> u8
-    ensures left { λ r.
-        let card = cardOf (now (numbers .entry)) (now (cid .entry)) (now (csd .entry)) (now (password .entry)) in
-        let stepped = frameStepped card (wonBy won) (now (frame .entry)) (length (now (memory .entry))) (now (map .entry)) in
-        let change = frameJudged card (wonBy won) (now (frame .entry)) (length (now (memory .entry))) (now (map .entry)) .change in
-        let bytes = sentBytes (card .registers) (stepped .reply .sent) in
-        ⌜ r ≡ outcomeNumber (stepped .reply .outcome) ⌝
-        ∗ ⌜ (now (numbers .exit) ≡ numbersAfter r (now (numbers .entry)) (stepped .card))
-        × (cardOf (now (numbers .exit)) (now (cid .entry)) (now (csd .entry)) (now (password .entry)) ≡ stepped .card) ⌝
-        ∗ ⌜ now (memory .exit) ≡ erasedBy card (now (memory .entry)) (now (map .entry)) change ⌝
-        ∗ ⌜ now (map .exit) ≡ protectedBy (now (map .entry)) change ⌝
-        ∗ ⌜ (now (answer .exit) ≡ fronted bytes (now (answer .entry))) × (now (sent .exit) ≡ length bytes) ⌝ }
-{
-    let card = card_of(*numbers, *cid, *csd, *password);
-    let registers = card.registers;
-    let stepped = card::frame(card, won != 0, frame, memory, map);
-    let next = stepped.card;
-    let reply = stepped.reply;
-    let outcome = reply.outcome;
-    let sends = reply.sent;
-    let number = outcome_number(outcome);
-    tell_numbers(number, next, numbers);
-    *sent = send(registers, sends, answer);
-    number
-}
-
-// A block in: 12, 15, 16, 17, 18, 19 or 20. Only this call may change the password.
-#[no_mangle]
-pub extern "C" fn mmc_parts_block_in(
-    numbers: &mut [u32; 12],
-    cid: &[u8; 16],
-    csd: &[u8; 16],
-    password: &mut [u8; 16],
-    block: &[u8],
-    memory: &mut [u8],
-    map: &mut [u8],
-) -> u8
-    ensures left { λ r.
-        let card = cardOf (now (numbers .entry)) (now (cid .entry)) (now (csd .entry)) (now (password .entry)) in
-        let judged = blockJudged card (now (block .entry)) (length (now (memory .entry))) (now (map .entry)) in
-        let next = judged .stepped .card in
-        ⌜ r ≡ outcomeNumber (judged .stepped .reply .outcome) ⌝
-        ∗ ⌜ (now (numbers .exit) ≡ numbersAfter r (now (numbers .entry)) next)
-        × (cardOf (now (numbers .exit)) (now (cid .entry)) (now (csd .entry)) (now (password .exit)) ≡ next) ⌝
-        ∗ ⌜ now (password .exit) ≡ next .lock .password ⌝
-        ∗ ⌜ now (memory .exit) ≡ storedBy (keptOf (now (block .entry))) (now (memory .entry)) (judged .storing) ⌝
-        ∗ ⌜ now (map .exit) ≡ clearedBy (now (map .entry)) (judged .storing) ⌝ }
-{
-    let card = card_of(*numbers, *cid, *csd, *password);
-    let stepped = card::block_in(card, block, memory, map);
-    let next = stepped.card;
-    let reply = stepped.reply;
-    let outcome = reply.outcome;
-    let lock = next.lock;
-    let stored = lock.password;
-    let number = outcome_number(outcome);
-    tell_numbers(number, next, numbers);
-    *password = stored;
-    number
-}
-
-// A block out: 12, 15, 6, 18, 21. How many bytes at the front of `out` are the block goes to
-// `written`.
-#[no_mangle]
-pub extern "C" fn mmc_parts_block_out(
-    numbers: &mut [u32; 12],
-    cid: &[u8; 16],
-    csd: &[u8; 16],
-    password: &[u8; 16],
-    memory: &[u8],
-    map: &[u8],
-    out: &mut [u8],
-    written: &mut usize,
-) -> u8
-    ensures left { λ r.
-        let card = cardOf (now (numbers .entry)) (now (cid .entry)) (now (csd .entry)) (now (password .entry)) in
-        let judged = outJudged card (length (now (memory .entry))) (now (map .entry)) (length (now (out .entry))) in
-        let stepped = judged .stepped in
-        ⌜ r ≡ outcomeNumber (stepped .reply .outcome) ⌝
-        ∗ ⌜ (now (numbers .exit) ≡ numbersAfter r (now (numbers .entry)) (stepped .card))
-        × (cardOf (now (numbers .exit)) (now (cid .entry)) (now (csd .entry)) (now (password .entry)) ≡ stepped .card) ⌝
-        ∗ ⌜ now (out .exit) ≡ sentOut (now (memory .entry)) (now (map .entry)) (now (out .entry)) (judged .sending) ⌝
-        ∗ ⌜ now (written .exit) ≡ wroteOf (stepped .reply .outcome) ⌝ }
-{
-    let card = card_of(*numbers, *cid, *csd, *password);
-    let stepped = card::block_out(card, memory, map, out);
-    let next = stepped.card;
-    let reply = stepped.reply;
-    let outcome = reply.outcome;
-    let number = outcome_number(outcome);
-    tell_numbers(number, next, numbers);
-    *written = wrote(outcome);
-    number
 }

@@ -7,15 +7,17 @@
 // `mmc_check_block`; `mmc_parts_make`, `mmc_parts_power_on`, `mmc_parts_work_done`,
 // `mmc_parts_frame`, `mmc_parts_block_in`, `mmc_parts_block_out`.
 mod answers;
+mod blocks;
 mod calls;
+mod frames;
 
 use base::Written;
-pub use calls::mmc_parts_block_in;
-pub use calls::mmc_parts_block_out;
-pub use calls::mmc_parts_frame;
+pub use blocks::mmc_parts_block_in;
+pub use blocks::mmc_parts_block_out;
 pub use calls::mmc_parts_make;
 pub use calls::mmc_parts_power_on;
 pub use calls::mmc_parts_work_done;
+pub use frames::mmc_parts_frame;
 use wire::Checked;
 use wire::Frame;
 ghost use mathlib.Core.Path.{_≡_};

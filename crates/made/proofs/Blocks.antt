@@ -28,6 +28,7 @@ use Rattle.status.specs.Status.{withBit}
 use Rattle.status.specs.declared.ErrorBit.{ErrorBit}
 use Rattle.status.specs.declared.Errors.{Errors}
 use Rattle.status.specs.declared.Fault.{Fault}
+use Rattle.store.specs.Lent.{Seen}
 use Rattle.tags.specs.Tagging.{anyOf}
 use Rattle.wire.specs.Blocks.{payloadOf}
 use Rattle.made.proofs.Locks.{request-made}
@@ -108,8 +109,8 @@ module _ (card : Card) (made : Made card) where
       }
 
   -- ---- a block in
-  module _ (block : List ℕ) (memory : ℕ) (map : List ℕ) where
-    in-kept : {judged : BlockJudged} → InOutcome card block memory map judged → Made (judged .stepped .card)
+  module _ (block : List ℕ) (seen : Seen) where
+    in-kept : {judged : BlockJudged} → InOutcome card block seen judged → Made (judged .stepped .card)
     unfolding blockRefused blockGood
     in-kept (unreads n listed) = made
     in-kept (refuses incoming refusal fault on refused) =
@@ -123,8 +124,8 @@ module _ (card : Card) (made : Made card) where
     in-kept (grants on granted) = with-lock block on
     in-kept (forces on erased) = with-lock block on
 
-    pub block-in-made : Made (blockJudged card block memory map .stepped .card)
-    block-in-made = in-kept (block-outcome card block memory map)
+    pub block-in-made : Made (blockJudged card block seen .stepped .card)
+    block-in-made = in-kept (block-outcome card block seen)
 
   -- ---- a block out
   unsent-kept : (bit : ErrorBit) (outgoing : Outgoing) → card .link .state ≡ Data outgoing → Pending (withBit (card .link .errors) bit)
@@ -141,5 +142,5 @@ module _ (card : Card) (made : Made card) where
       (after-sent (card .registers .groups) (card .link .length) (card .lock .locked) outgoing next (subst here on (made .link .work)) within)
       (made .link .errors)
 
-  pub block-out-made : (memory : ℕ) (map : List ℕ) (room : ℕ) → Made (outJudged card memory map room .stepped .card)
-  block-out-made memory map room = out-kept (out-outcome card memory map room)
+  pub block-out-made : (seen : Seen) (room : ℕ) → Made (outJudged card seen room .stepped .card)
+  block-out-made seen room = out-kept (out-outcome card seen room)

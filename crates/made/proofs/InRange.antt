@@ -20,6 +20,7 @@ use Rattle.states.specs.declared.Incoming.{Incoming}
 use Rattle.states.specs.declared.Incoming.the-variants.{One}
 use Rattle.states.specs.declared.State.the-variants.{Rcv}
 use Rattle.status.specs.declared.Fault.{Fault}
+use Rattle.store.specs.Lent.{Seen}
 use Rattle.made.specs.Made.{Awaits, Waits, Made}
 
 module _ (card : Card) (made : Made card) (at : ℕ) (awaits : card .link .state ≡ Rcv (One at)) where
@@ -42,8 +43,8 @@ module _ (card : Card) (made : Made card) (at : ℕ) (awaits : card .link .state
   abbrev refusedBy : Refusal → BlockJudged → Type 0
   refusedBy refusal judged = judged .stepped .reply .outcome ≡ Refused refusal
 
-  module _ (block : List ℕ) (memory : ℕ) (map : List ℕ) (refusal : Refusal) where
-    not-18 : {judged : BlockJudged} → InOutcome card block memory map judged → refusedBy refusal judged → numberOf refusal ≡ 18 → ⊥
+  module _ (block : List ℕ) (seen : Seen) (refusal : Refusal) where
+    not-18 : {judged : BlockJudged} → InOutcome card block seen judged → refusedBy refusal judged → numberOf refusal ≡ 18 → ⊥
     unfolding blockRefused blockGood
     not-18 (unreads n listed) e is =
         each (λ (k : ℕ). refusalOf k ≡ refusal → ⊥) (12 ∷ 15 ∷ []) (λ z. omega (arith, ap numberOf z), (λ z. omega (arith, ap numberOf z), tt)) n listed (cc)
@@ -52,6 +53,6 @@ module _ (card : Card) (made : Made card) (at : ℕ) (awaits : card .link .state
     not-18 (grants on granted) e is = clash cc
     not-18 (forces on erased) e is = clash cc
 
-  pub one-block-in-range : (block : List ℕ) (memory : ℕ) (map : List ℕ) (room : ℕ) (refusal : Refusal)
-      → stepOf card BlockIn block memory map room .reply .outcome ≡ Refused refusal → numberOf refusal ≡ 18 → ⊥
-  one-block-in-range block memory map room refusal = not-18 block memory map refusal (block-outcome card block memory map)
+  pub one-block-in-range : (block : List ℕ) (seen : Seen) (room : ℕ) (refusal : Refusal)
+      → stepOf card BlockIn block seen room .reply .outcome ≡ Refused refusal → numberOf refusal ≡ 18 → ⊥
+  one-block-in-range block seen room refusal = not-18 block seen refusal (block-outcome card block seen)

@@ -9,30 +9,30 @@ use Prim.Native.Nat.{ℕ}
 use Rattle.card.proofs.Outcomes.{InOutcome, unreads, refuses, stores, grants, forces, OutOutcome, unsends, past, across, sends, FrameOutcome, unheard, damaged, commands, block-outcome, out-outcome, frame-outcome, told}
 use Rattle.card.specs.BlockIn.{blockRefused, blockGood}
 use Rattle.card.specs.BlockOut.{outRefused, outGood}
-use Rattle.card.specs.Frame.{frameJudged, spares, frameStepped}
+use Rattle.card.specs.Frame.{FrameJudged, frameJudged, spares, frameStepped}
 use Rattle.card.specs.Step.{stepOf}
 use Rattle.card.specs.declared.BlockJudged.{BlockJudged}
 use Rattle.card.specs.declared.Call.{Call}
 use Rattle.card.specs.declared.Call.the-variants.{Frame, BlockIn, BlockOut, WorkDone, PowerOn}
-use Rattle.card.specs.declared.FrameJudged.{FrameJudged}
 use Rattle.card.specs.declared.OutJudged.{OutJudged}
 use Rattle.card.specs.declared.Stepped.{Stepped}
 use Rattle.card_record.specs.Power.{poweredOn, worked}
 use Rattle.card_record.specs.declared.Card.{Card}
+use Rattle.store.specs.Lent.{Seen}
 
 module _ (card : Card) where
   -- registers and lock as they were
   abbrev Same : Card → Type 0
   Same next = (next .registers ≡ card .registers) × (next .lock ≡ card .lock)
 
-  in-registers : (block : List ℕ) (memory : ℕ) (map : List ℕ) {judged : BlockJudged} → InOutcome card block memory map judged
+  in-registers : (block : List ℕ) (seen : Seen) {judged : BlockJudged} → InOutcome card block seen judged
       → judged .stepped .card .registers ≡ card .registers
   unfolding blockRefused blockGood
-  in-registers block memory map (unreads n listed) = refl
-  in-registers block memory map (refuses incoming refusal fault on why) = refl
-  in-registers block memory map (stores incoming at w on right) = refl
-  in-registers block memory map (grants on granted) = refl
-  in-registers block memory map (forces on erased) = refl
+  in-registers block seen (unreads n listed) = refl
+  in-registers block seen (refuses incoming refusal fault on why) = refl
+  in-registers block seen (stores incoming at w on right) = refl
+  in-registers block seen (grants on granted) = refl
+  in-registers block seen (forces on erased) = refl
 
   out-same : {judged : OutJudged} → OutOutcome card judged → Same (judged .stepped .card)
   unfolding outRefused outGood
@@ -41,26 +41,26 @@ module _ (card : Card) where
   out-same (across outgoing on) = (refl, refl)
   out-same (sends outgoing next n sending on within) = (refl, refl)
 
-  judged-same : (wins : Bool) (frame : List ℕ) (memory : ℕ) (map : List ℕ) {judged : FrameJudged} → FrameOutcome card wins frame memory map judged
+  judged-same : (wins : Bool) (frame : List ℕ) (seen : Seen) {judged : FrameJudged} → FrameOutcome card wins frame seen judged
       → Same (judged .stepped .card)
-  judged-same wins frame memory map (unheard n listed) = (refl, refl)
-  judged-same wins frame memory map damaged = (refl, refl)
-  judged-same wins frame memory map (commands index argument is lent) = (refl, refl)
+  judged-same wins frame seen (unheard n listed) = (refl, refl)
+  judged-same wins frame seen damaged = (refl, refl)
+  judged-same wins frame seen (commands index argument is lent) = (refl, refl)
 
-  frame-same : (wins : Bool) (frame : List ℕ) (memory : ℕ) (map : List ℕ) → Same (frameStepped card wins frame memory map .card)
+  frame-same : (wins : Bool) (frame : List ℕ) (seen : Seen) → Same (frameStepped card wins frame seen .card)
   unfolding frameStepped
-  frame-same wins frame memory map =
-      let same = judged-same wins frame memory map (frame-outcome card wins frame memory map) in
-      told (λ (s : Stepped). Same (s .card)) (frameJudged card wins frame memory map .stepped)
-      (spares card memory map (frameJudged card wins frame memory map .change)) same same
+  frame-same wins frame seen =
+      let same = judged-same wins frame seen (frame-outcome card wins frame seen) in
+      told (λ (s : Stepped). Same (s .card)) (frameJudged card wins frame seen .stepped)
+      (spares card seen (frameJudged card wins frame seen .change)) same same
 
-  pub registers-kept : (call : Call) (input : List ℕ) (memory : ℕ) (map : List ℕ) (room : ℕ) → stepOf card call input memory map room .card .registers ≡ card .registers
+  pub registers-kept : (call : Call) (input : List ℕ) (seen : Seen) (room : ℕ) → stepOf card call input seen room .card .registers ≡ card .registers
   unfolding worked poweredOn
-  registers-kept (Frame wins) input memory map room = frame-same wins input memory map .0
-  registers-kept BlockIn input memory map room = in-registers input memory map (block-outcome card input memory map)
-  registers-kept BlockOut input memory map room = out-same (out-outcome card memory map room) .0
-  registers-kept WorkDone input memory map room = refl
-  registers-kept PowerOn input memory map room = refl
+  registers-kept (Frame wins) input seen room = frame-same wins input seen .0
+  registers-kept BlockIn input seen room = in-registers input seen (block-outcome card input seen)
+  registers-kept BlockOut input seen room = out-same (out-outcome card seen room) .0
+  registers-kept WorkDone input seen room = refl
+  registers-kept PowerOn input seen room = refl
 
   -- a call that is neither a block in nor power-on
   abbrev pub KeepsLock : Call → Type 0
@@ -70,11 +70,11 @@ module _ (card : Card) where
   KeepsLock WorkDone = Unit {0}
   KeepsLock PowerOn = ⊥
 
-  pub lock-kept : (call : Call) → KeepsLock call → (input : List ℕ) (memory : ℕ) (map : List ℕ) (room : ℕ)
-      → stepOf card call input memory map room .card .lock ≡ card .lock
+  pub lock-kept : (call : Call) → KeepsLock call → (input : List ℕ) (seen : Seen) (room : ℕ)
+      → stepOf card call input seen room .card .lock ≡ card .lock
   unfolding worked
-  lock-kept (Frame wins) other input memory map room = frame-same wins input memory map .1
-  lock-kept BlockIn other input memory map room = absurd other
-  lock-kept BlockOut other input memory map room = out-same (out-outcome card memory map room) .1
-  lock-kept WorkDone other input memory map room = refl
-  lock-kept PowerOn other input memory map room = absurd other
+  lock-kept (Frame wins) other input seen room = frame-same wins input seen .1
+  lock-kept BlockIn other input seen room = absurd other
+  lock-kept BlockOut other input seen room = out-same (out-outcome card seen room) .1
+  lock-kept WorkDone other input seen room = refl
+  lock-kept PowerOn other input seen room = absurd other

@@ -1,23 +1,24 @@
--- What a card leaves of the memory and the map that it was lent, it can be lent again: "The map has one byte per protection group, 0 or 1".
---   run-lent           a memory and a map that are right for a card are so after any list of calls
---   made-stays-lent    so are those that a card was made with
---   two-unright        a CMD28 that wrote 2 would not leave them so
+-- What a card leaves of what it was lent, it can be lent again: "The map has one byte per protection group, 0 or 1".
+--   step-lent          what is lent rightly to a card (`RightlyLent`) is so after any call
+--   run-lent           and after any list of calls
+--   made-stays-lent    so is what a card was made with
+--   two-unright        a CMD28 that wrote 2 would not leave it so
 -- Assumes nothing.
 use mathlib.Core.Path.{_≡_, refl, sym, ap, _∙_}
 use mathlib.Core.Bool.{Bool, true, false, not, _&&_}
 use mathlib.Core.List.{List, [], _∷_}
-use Prim.Native.Nat.{ℕ, zero, suc, _/_, _*_, _≤_}
+use Prim.Native.Nat.{ℕ, zero, suc, _/_, _≤_}
 use native.Mathlib.Omega.{arith}
-use borrow.Author.Tests.{leb-true, le-leb, eq-eqb}
+use borrow.Author.Tests.{leb-true, le-leb, eqb-true}
 use lib.Dec.{eqb, leb}
 use lib.ListN.{length, getD, set, replicate, length-set}
-use Rattle.base.proofs.Cases.{guarded, clash, never, first, last}
+use Rattle.base.proofs.Cases.{guarded, clash, first, last}
 use Rattle.base.specs.Choice.{pick}
 use Rattle.base.specs.Refusals.{by}
 use Rattle.base.specs.declared.Refusal.{Refusal}
-use Rattle.card.specs.BlockIn.{clearedBy, blockJudged}
-use Rattle.card.specs.Frame.{frameJudged, protectedBy}
-use Rattle.card.specs.Step.{mapOf}
+use Rattle.card.specs.BlockIn.{storedBy, blockJudged}
+use Rattle.card.specs.Frame.{frameJudged, changedBy}
+use Rattle.card.specs.Step.{lentAfter}
 use Rattle.card.specs.declared.Call.{Call}
 use Rattle.card.specs.declared.Call.the-variants.{Frame, BlockIn, BlockOut, WorkDone, PowerOn}
 use Rattle.card.specs.declared.Storing.{Storing}
@@ -34,13 +35,16 @@ use Rattle.card_record.specs.declared.Card.{Card}
 use Rattle.card_record.specs.declared.Made.{Made as MadeOf}
 use Rattle.card_record.specs.declared.Making.the-variants.{Done}
 use Rattle.card_record.specs.declared.Registers.{Registers}
-use Rattle.store.specs.Map.{entriesRight, mapRight, lentRight, groupSet}
+use Rattle.store.proofs.OnceLent.{right-parts, parts-right}
+use Rattle.store.specs.Lent.{Lent, Seen, seenOf, seen, lendingOf}
+use Rattle.store.specs.Map.{entriesRight, mapRight, groupSet}
 use Rattle.store.specs.Memory.{sizeAllowed}
+use Rattle.store.specs.declared.Lending.the-variants.{Right}
 use Rattle.wire.specs.Responses.{registerRight}
 use Rattle.made.proofs.Kept.{registers-kept}
-use Rattle.made.proofs.Run.{memory-length, map-length}
+use Rattle.made.proofs.Run.{lent-lengths}
 use Rattle.made.proofs.Stays.{whole-groups}
-use Rattle.made.specs.Run.{World, Input, next, runOf, begun}
+use Rattle.made.specs.Run.{World, Input, next, runOf, madeLent, begun}
 
 -- ---- the entries of a map
 set-small : (l : List ℕ) (i j v : ℕ) → v ≤ 1 → getD l j 0 ≤ 1 → getD (set l i v) j 0 ≤ 1
@@ -77,98 +81,88 @@ bit-small : (on : Bool) → pick on 1 0 ≤ 1
 bit-small true = omega arith
 bit-small false = omega arith
 
-protected-entries : (map : List ℕ) (change : Change) → Entries map → Entries (protectedBy map change)
-protected-entries map Nothing e = e
-protected-entries map (Protect group on) e =
-    ap (entriesRight (groupSet map group on)) (length-set map group (pick on 1 0)) ∙ entries-set map group (pick on 1 0) (length map) (bit-small on) e
-protected-entries map Erase e = e
+changed-entries : (card : Card) (change : Change) (lent : Lent) → Entries (lent .map) → Entries (changedBy card change lent .map)
+changed-entries card Nothing lent e = e
+changed-entries card (Protect group on) lent e =
+    ap (entriesRight (groupSet (lent .map) group on)) (length-set (lent .map) group (pick on 1 0))
+    ∙ entries-set (lent .map) group (pick on 1 0) (length (lent .map)) (bit-small on) e
+changed-entries card Erase lent e = e
 
-cleared-entries : (map : List ℕ) (storing : Storing) → Entries map → Entries (clearedBy map storing)
-cleared-entries map Unstored e = e
-cleared-entries map (Sector sector) e = e
-cleared-entries map All e = entries-clear (length map) (length (replicate (length map) 0))
+stored-entries : (block : List ℕ) (storing : Storing) (lent : Lent) → Entries (lent .map) → Entries (storedBy block storing lent .map)
+stored-entries block Unstored lent e = e
+stored-entries block (Sector sector) lent e = e
+stored-entries block All lent e = entries-clear (length (lent .map)) (length (replicate (length (lent .map)) 0))
 
-map-entries : (card : Card) (call : Call) (input : List ℕ) (memory : ℕ) (map : List ℕ) → Entries map → Entries (mapOf card call input memory map)
-map-entries card (Frame wins) input memory map e = protected-entries map (frameJudged card wins input memory map .change) e
-map-entries card BlockIn input memory map e = cleared-entries map (blockJudged card input memory map .storing) e
-map-entries card BlockOut input memory map e = e
-map-entries card WorkDone input memory map e = e
-map-entries card PowerOn input memory map e = e
+lent-entries : (card : Card) (call : Call) (input : List ℕ) (lent : Lent) → Entries (lent .map) → Entries (lentAfter card call input lent .map)
+lent-entries card (Frame wins) input lent e = changed-entries card (frameJudged card wins input (seen lent) .change) lent e
+lent-entries card BlockIn input lent e = stored-entries input (blockJudged card input (seen lent) .storing) lent e
+lent-entries card BlockOut input lent e = e
+lent-entries card WorkDone input lent e = e
+lent-entries card PowerOn input lent e = e
 
 -- ---- what is lent
-pair : (a b : Bool) → a ≡ true → b ≡ true → (a && b) ≡ true
-pair true true e f = refl
-pair true false e f = f
-pair false b e f = e
+-- it is right for the card
+abbrev pub RightlyLent : World → Type 0
+RightlyLent world = lendingOf (seen (world .lent)) (world .card .registers .groups) ≡ Right
 
--- a memory and a map that are right for a card
-abbrev pub Lent : World → Type 0
-Lent world = lentRight (length (world .memory)) (world .map) (world .card .registers .groups) ≡ true
-
-pub step-lent : (world : World) (input : Input) → Lent world → Lent (next world input)
+pub step-lent : (world : World) (input : Input) → RightlyLent world → RightlyLent (next world input)
 unfolding next
-step-lent world input lent =
-    let memory : ℕ = length (world .memory) in
+step-lent world input right =
     let groups : ℕ = world .card .registers .groups in
-    let after : List ℕ = mapOf (world .card) (input .call) (input .bytes) memory (world .map) in
-    let size = first (eqb memory (groups * 8192)) (mapRight (world .map) groups) lent in
-    let right = last (eqb memory (groups * 8192)) (mapRight (world .map) groups) lent in
-    let long = first (eqb (length (world .map)) groups) (entriesRight (world .map) (length (world .map))) right in
-    let entries = last (eqb (length (world .map)) groups) (entriesRight (world .map) (length (world .map))) right in
-    let same : length after ≡ length (world .map) = map-length (world .card) (input .call) (input .bytes) memory (world .map) in
-    ap (λ (n : ℕ). lentRight n after (next world input .card .registers .groups))
-    (memory-length (world .card) (input .call) (input .bytes) (world .memory) (world .map))
-    ∙ ap (λ (r : Registers). lentRight memory after (r .groups))
-    (registers-kept (world .card) (input .call) (input .bytes) memory (world .map) (length (input .output)))
-    ∙ pair (eqb memory (groups * 8192)) (mapRight after groups) size
-    (pair (eqb (length after) groups) (entriesRight after (length after)) (ap (λ (n : ℕ). eqb n groups) same ∙ long)
-    (map-entries (world .card) (input .call) (input .bytes) memory (world .map) entries))
+    let after : Lent = lentAfter (world .card) (input .call) (input .bytes) (world .lent) in
+    let parts = right-parts (seen (world .lent)) groups right in
+    let same = lent-lengths (world .card) (input .call) (input .bytes) (world .lent) in
+    ap (λ (r : Registers). lendingOf (seen after) (r .groups))
+    (registers-kept (world .card) (input .call) (input .bytes) (seen (world .lent)) (length (input .output)))
+    ∙ parts-right (seen after) groups (same .memory ∙ parts .0) (same .map ∙ parts .1 .0)
+    (lent-entries (world .card) (input .call) (input .bytes) (world .lent) (parts .1 .1))
 
-pub run-lent : (world : World) (inputs : List Input) → Lent world → Lent (runOf world inputs)
+pub run-lent : (world : World) (inputs : List Input) → RightlyLent world → RightlyLent (runOf world inputs)
 unfolding runOf
-run-lent world [] lent = lent
-run-lent world (input ∷ inputs) lent = run-lent (next world input) inputs (step-lent world input lent)
+run-lent world [] right = right
+run-lent world (input ∷ inputs) right = run-lent (next world input) inputs (step-lent world input right)
 
 -- ---- making
 -- what making was lent is right for the card that it made
-abbrev Right : ℕ → List ℕ → MadeOf → Type 0
-Right memory map made = made .making ≡ Done → lentRight memory map (made .card .registers .groups) ≡ true
+module _ (seen : Seen) where
+  abbrev Lends : MadeOf → Type 0
+  Lends made = made .making ≡ Done → lendingOf seen (made .card .registers .groups) ≡ Right
 
-password-lent : (memory : ℕ) (map : List ℕ) (registers : Registers) (lock : Lock) (making : LockMaking)
-    → lentRight memory map (registers .groups) ≡ true → Right memory map (lockedBy registers lock making)
-password-lent memory map registers lock LockDone right e = right
-password-lent memory map registers lock (LockRefused refusal) right e = clash cc
+  password-lent : (registers : Registers) (lock : Lock) (making : LockMaking) → lendingOf seen (registers .groups) ≡ Right
+      → Lends (lockedBy registers lock making)
+  password-lent registers lock LockDone right e = right
+  password-lent registers lock (LockRefused refusal) right e = clash cc
 
-refused-lent : (memory : ℕ) (map : List ℕ) (refusal : Refusal) → Right memory map (failedMake refusal)
-refused-lent memory map refusal e = clash cc
+  refused-lent : (refusal : Refusal) → Lends (failedMake refusal)
+  refused-lent refusal e = clash cc
 
-make-lent : (cid csd : List ℕ) (ocr : ℕ) (password : List ℕ) (memory : ℕ) (map : List ℕ)
-    → Right memory map (madeOf cid csd ocr password memory map)
-unfolding madeOf passwordMade
-make-lent cid csd ocr password memory map =
-    guarded (Right memory map) (sizeAllowed memory) (λ e. refused-lent memory map (by 7))
-    (λ allowed.
-    guarded (Right memory map) (mapRight map (memory / 8192)) (λ e. refused-lent memory map (by 8))
-    (λ right.
-    guarded (Right memory map) (registerRight cid) (λ e. refused-lent memory map (by 9))
-    (λ c.
-    guarded (Right memory map) (registerRight csd) (λ e. refused-lent memory map (by 9))
-    (λ d.
-    guarded (Right memory map) (not (eqb (window ocr) 0)) (λ e. refused-lent memory map (by 10))
-    (λ o.
-    password-lent memory map (record { cid = cid; csd = csd; ocr = ocr; groups = memory / 8192 }) (lockMadeOf password .lock) (lockMadeOf password .making)
-    (pair (eqb memory (memory / 8192 * 8192)) (mapRight map (memory / 8192))
-    (eq-eqb memory (memory / 8192 * 8192) (sym (whole-groups memory allowed))) right))))))
+  make-lent : (cid csd : List ℕ) (ocr : ℕ) (password : List ℕ) → Lends (madeOf cid csd ocr password (seen .bytes) (seen .map))
+  unfolding madeOf passwordMade
+  make-lent cid csd ocr password =
+      guarded Lends (sizeAllowed (seen .bytes)) (λ e. refused-lent (by 7))
+      (λ allowed.
+      guarded Lends (mapRight (seen .map) (seen .bytes / 8192)) (λ e. refused-lent (by 8))
+      (λ right.
+      guarded Lends (registerRight cid) (λ e. refused-lent (by 9))
+      (λ c.
+      guarded Lends (registerRight csd) (λ e. refused-lent (by 9))
+      (λ d.
+      guarded Lends (not (eqb (window ocr) 0)) (λ e. refused-lent (by 10))
+      (λ o.
+      password-lent (record { cid = cid; csd = csd; ocr = ocr; groups = seen .bytes / 8192 }) (lockMadeOf password .lock) (lockMadeOf password .making)
+      (parts-right seen (seen .bytes / 8192) (sym (whole-groups (seen .bytes) allowed))
+      (eqb-true (length (seen .map)) (seen .bytes / 8192) (first (eqb (length (seen .map)) (seen .bytes / 8192)) (entriesRight (seen .map) (length (seen .map))) right))
+      (last (eqb (length (seen .map)) (seen .bytes / 8192)) (entriesRight (seen .map) (length (seen .map))) right)))))))
 
-pub made-stays-lent : (cid csd : List ℕ) (ocr : ℕ) (password memory map : List ℕ) (inputs : List Input)
-    → madeOf cid csd ocr password (length memory) map .making ≡ Done → Lent (runOf (begun cid csd ocr password memory map) inputs)
-made-stays-lent cid csd ocr password memory map inputs e =
-    run-lent (begun cid csd ocr password memory map) inputs (make-lent cid csd ocr password (length memory) map e)
+pub made-stays-lent : (cid csd : List ℕ) (ocr : ℕ) (password : List ℕ) (lent : Lent) (inputs : List Input)
+    → madeLent cid csd ocr password lent .making ≡ Done → RightlyLent (runOf (begun cid csd ocr password lent) inputs)
+made-stays-lent cid csd ocr password lent inputs e =
+    run-lent (begun cid csd ocr password lent) inputs (make-lent (seen lent) cid csd ocr password e)
 
 -- ---- a wrong answer: a map whose set groups hold another number
 abbrev groupSetTo : ℕ → List ℕ → ℕ → Bool → List ℕ
 groupSetTo entry map group on = set map group (pick on entry 0)
 
-two-unright : ((map : List ℕ) (group : ℕ) (on : Bool) → lentRight 8192 map 1 ≡ true → lentRight 8192 (groupSetTo 2 map group on) 1 ≡ true) → ⊥
+two-unright : ((map : List ℕ) (group : ℕ) (on : Bool) → lendingOf (seenOf 8192 map) 1 ≡ Right → lendingOf (seenOf 8192 (groupSetTo 2 map group on)) 1 ≡ Right) → ⊥
 unfolding entriesRight
-two-unright keeps = never (keeps (0 ∷ []) 0 true refl)
+two-unright keeps = let right = keeps (0 ∷ []) 0 true refl in clash cc

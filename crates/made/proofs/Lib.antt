@@ -1,3 +1,4 @@
+pub mod Acted
 pub mod Blocks
 pub mod Commands
 pub mod Faults

@@ -3,17 +3,18 @@
 --   damaged-made     after a frame whose CRC7 is wrong
 --   errors-made      with other error bits that can wait
 --   at-waits         the state that a column stands for waits for nothing, or for the work
---   left-pending     the error bits that an answer leaves
+--   told-pending     the pending error bits with 13, where the command drops tags
+--   left-pending     the error bits that MMC mode's answer leaves
 -- Assumes nothing.
 use mathlib.Core.Path.{refl}
 use mathlib.Core.Bool.{Bool}
 use Prim.Native.Nat.{ℕ}
 use native.Mathlib.Omega.{arith}
 use lib.Dec.{eqb}
-use Rattle.base.proofs.Cases.{picked, never}
+use Rattle.base.proofs.Cases.{picked, guarded, never}
 use Rattle.command.specs.Answers.{leftOf}
 use Rattle.command.specs.Command.{damagedLink}
-use Rattle.command.specs.Obey.{stateAt}
+use Rattle.command.specs.Obey.{dropsTags, resetTold, stateAt}
 use Rattle.command.specs.declared.Response.{Response}
 use Rattle.command.specs.declared.Response.the-variants.{Nothing, R1, R2, R3}
 use Rattle.card_record.specs.Power.{freshLink}
@@ -26,6 +27,7 @@ use Rattle.states.specs.declared.State.{State}
 use Rattle.status.specs.ErrorBits.{errorBit}
 use Rattle.status.specs.Status.{withBit}
 use Rattle.status.specs.declared.Errors.{Errors}
+use Rattle.tags.specs.Tagging.{anyOf}
 use Rattle.made.proofs.Pending.{none-pending, set-pending, taken-pending}
 use Rattle.made.specs.Made.{Waits, Pending, MadeLink}
 
@@ -55,6 +57,12 @@ at-waits groups length locked Rcv work w = w
 at-waits groups length locked Prg work w = tt
 at-waits groups length locked Dis work w = tt
 at-waits groups length locked Ina work w = tt
+
+pub told-pending : (link : Link) (index : ℕ) → Pending (link .errors) → Pending (resetTold link index)
+unfolding resetTold
+told-pending link index pending =
+    guarded Pending (dropsTags index) (λ t. pending)
+    (λ t. guarded Pending (anyOf (link .tags)) (λ u. pending) (λ u. set-pending (link .errors) (errorBit 13) refl pending))
 
 pub left-pending : (response : Response) (errors : Errors) → Pending errors → Pending (leftOf response errors)
 left-pending Nothing errors h = taken-pending errors h

@@ -1,9 +1,9 @@
 -- A card that is lent what it left never gives 12.
---   lent-never-12    no call gives it where memory and map are right for the card
+--   lent-never-12    no call gives it where what is lent is right for the card
 --   never-12         so none does in a run of a card that was made
 -- Assumes nothing.
 use mathlib.Core.Path.{_≡_}
-use mathlib.Core.Bool.{Bool, true, not}
+use mathlib.Core.Bool.{Bool, not}
 use mathlib.Core.List.{List}
 use Prim.Native.Nat.{ℕ, _+_, _/_}
 use lib.Dec.{eqb, leb, ltb}
@@ -13,12 +13,11 @@ use Rattle.base.specs.Refusals.{by}
 use Rattle.card.proofs.Outcomes.{told}
 use Rattle.card.specs.BlockIn.{beside, awaitedLength, blockRefused, blockGood, writeJudged, lockJudged, requestJudged, carriedOut, awaitedJudged, stateJudged, blockJudged}
 use Rattle.card.specs.BlockOut.{outRefused, outGood, partJudged, protectionJudged, outgoingJudged, stateSends, outJudged}
-use Rattle.card.specs.Frame.{framed, frameJudged, spares, frameStepped}
+use Rattle.card.specs.Frame.{FrameJudged, framed, frameJudged, spares, frameStepped}
 use Rattle.card.specs.Step.{stepOf}
 use Rattle.card.specs.declared.BlockJudged.{BlockJudged}
 use Rattle.card.specs.declared.Call.{Call}
 use Rattle.card.specs.declared.Call.the-variants.{Frame, BlockIn, BlockOut, WorkDone, PowerOn}
-use Rattle.card.specs.declared.FrameJudged.{FrameJudged}
 use Rattle.card.specs.declared.OutJudged.{OutJudged}
 use Rattle.card.specs.declared.Outcome.{Outcome}
 use Rattle.card.specs.declared.Outcome.the-variants.{Refused}
@@ -29,7 +28,6 @@ use Rattle.lock.specs.Requests.{requestOf}
 use Rattle.lock.specs.declared.Answer.{Answer}
 use Rattle.lock.specs.declared.Answer.the-variants.{Granted, Erased, Failed}
 use Rattle.lock.specs.declared.Lock.{Lock}
-use Rattle.card_record.specs.Making.{madeOf}
 use Rattle.card_record.specs.Record.{sizeOf, csdProtects, lengthRead, crosses}
 use Rattle.card_record.specs.declared.Card.{Card}
 use Rattle.card_record.specs.declared.Making.the-variants.{Done}
@@ -39,11 +37,13 @@ use Rattle.states.specs.declared.Outgoing.{Outgoing}
 use Rattle.states.specs.declared.Outgoing.the-variants.{One as OneOut, Many as ManyOut, Protection}
 use Rattle.states.specs.declared.State.{State}
 use Rattle.states.specs.declared.State.the-variants.{Idle, Ready, Ident, Stby, Tran, Data, Rcv, Prg, Dis, Ina}
-use Rattle.store.specs.Map.{lentRight, protectedIn}
+use Rattle.store.specs.Lent.{Lent, Seen, seen, lendingOf}
+use Rattle.store.specs.Map.{protectedIn}
+use Rattle.store.specs.declared.Lending.the-variants.{Right}
 use Rattle.wire.specs.Blocks.{payloadOf, crcIn}
 use Rattle.wire.specs.Frames.{crc7Of, field, fieldsOf, framingOf}
 use Rattle.wire.specs.declared.Framing.{Framing}
-use Rattle.made.specs.Run.{World, Input, outcomeOf, runOf, begun}
+use Rattle.made.specs.Run.{World, Input, outcomeOf, runOf, madeLent, begun}
 use Rattle.made.proofs.Lent.{made-stays-lent}
 
 abbrev Not12 : Outcome → Type 0
@@ -138,34 +138,34 @@ module _ (card : Card) where
   out-not Dis room e = clash cc
   out-not Ina room e = clash cc
 
-  module _ (memory : ℕ) (map : List ℕ) (lent : lentRight memory map (card .registers .groups) ≡ true) where
-    frame-judged-not : (wins : Bool) (frame : List ℕ) → FrameNot (frameJudged card wins frame memory map)
+  module _ (seen : Seen) (right : lendingOf seen (card .registers .groups) ≡ Right) where
+    frame-judged-not : (wins : Bool) (frame : List ℕ) → FrameNot (frameJudged card wins frame seen)
     unfolding frameJudged
-    frame-judged-not wins frame = rw lent (framed-not wins frame)
+    frame-judged-not wins frame = rw right (framed-not wins frame)
 
-    in-judged-not : (block : List ℕ) → InNot (blockJudged card block memory map)
+    in-judged-not : (block : List ℕ) → InNot (blockJudged card block seen)
     unfolding blockJudged
-    in-judged-not block = rw lent (in-not (card .link .state) block map)
+    in-judged-not block = rw right (in-not (card .link .state) block (seen .map))
 
-    out-judged-not : (room : ℕ) → OutNot (outJudged card memory map room)
+    out-judged-not : (room : ℕ) → OutNot (outJudged card seen room)
     unfolding outJudged
-    out-judged-not room = rw lent (out-not (card .link .state) room)
+    out-judged-not room = rw right (out-not (card .link .state) room)
 
-    pub lent-never-12 : (call : Call) (input : List ℕ) (room : ℕ) → stepOf card call input memory map room .reply .outcome ≡ Refused (by 12) → ⊥
+    pub lent-never-12 : (call : Call) (input : List ℕ) (room : ℕ) → stepOf card call input seen room .reply .outcome ≡ Refused (by 12) → ⊥
     unfolding frameStepped
     lent-never-12 (Frame wins) input room =
         let same = frame-judged-not wins input in
-        told (λ (s : Stepped). Not12 (s .reply .outcome)) (frameJudged card wins input memory map .stepped)
-        (spares card memory map (frameJudged card wins input memory map .change)) same same
+        told (λ (s : Stepped). Not12 (s .reply .outcome)) (frameJudged card wins input seen .stepped)
+        (spares card seen (frameJudged card wins input seen .change)) same same
     lent-never-12 BlockIn input room = in-judged-not input
     lent-never-12 BlockOut input room = out-judged-not room
     lent-never-12 WorkDone input room = λ e. clash cc
     lent-never-12 PowerOn input room = λ e. clash cc
 
-pub never-12 : (cid csd : List ℕ) (ocr : ℕ) (password memory map : List ℕ) (inputs : List Input) (input : Input)
-    → madeOf cid csd ocr password (length memory) map .making ≡ Done
-    → outcomeOf (runOf (begun cid csd ocr password memory map) inputs) input ≡ Refused (by 12) → ⊥
-never-12 cid csd ocr password memory map inputs input e =
-    let world : World = runOf (begun cid csd ocr password memory map) inputs in
-    lent-never-12 (world .card) (length (world .memory)) (world .map) (made-stays-lent cid csd ocr password memory map inputs e)
+pub never-12 : (cid csd : List ℕ) (ocr : ℕ) (password : List ℕ) (lent : Lent) (inputs : List Input) (input : Input)
+    → madeLent cid csd ocr password lent .making ≡ Done
+    → outcomeOf (runOf (begun cid csd ocr password lent) inputs) input ≡ Refused (by 12) → ⊥
+never-12 cid csd ocr password lent inputs input e =
+    let world : World = runOf (begun cid csd ocr password lent) inputs in
+    lent-never-12 (world .card) (seen (world .lent)) (made-stays-lent cid csd ocr password lent inputs e)
     (input .call) (input .bytes) (length (input .output))

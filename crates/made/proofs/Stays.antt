@@ -17,11 +17,10 @@ use Rattle.base.proofs.Cases.{guarded, clash}
 use Rattle.base.specs.Refusals.{by}
 use Rattle.base.specs.declared.Refusal.{Refusal}
 use Rattle.card.proofs.Outcomes.{FrameOutcome, unheard, damaged, commands, frame-outcome, told}
-use Rattle.card.specs.Frame.{frameJudged, spares, sparedTold, frameStepped}
+use Rattle.card.specs.Frame.{FrameJudged, frameJudged, spares, sparedTold, frameStepped}
 use Rattle.card.specs.Step.{stepOf}
 use Rattle.card.specs.declared.Call.{Call}
 use Rattle.card.specs.declared.Call.the-variants.{Frame, BlockIn, BlockOut, WorkDone, PowerOn}
-use Rattle.card.specs.declared.FrameJudged.{FrameJudged}
 use Rattle.card.specs.declared.Stepped.{Stepped}
 use Rattle.command.specs.Command.{metBy, damagedLink, commandOf}
 use Rattle.lock.specs.Passwords.{poweredOf, lockMade as lockMadeOf}
@@ -41,6 +40,7 @@ use Rattle.states.specs.declared.State.the-variants.{Idle, Ready, Ident, Stby, 
 use Rattle.status.specs.ErrorBits.{errorBit}
 use Rattle.status.specs.Status.{withBit}
 use Rattle.store.proofs.Sectors.{allowed-size}
+use Rattle.store.specs.Lent.{Seen}
 use Rattle.store.specs.Map.{mapRight}
 use Rattle.store.specs.Memory.{sizeAllowed}
 use Rattle.wire.specs.Responses.{registerRight}
@@ -70,11 +70,11 @@ damage-made card made =
 
 -- ---- frames
 module _ (card : Card) (made : Made card) where
-  judged-made : (wins : Bool) (frame : List ℕ) (memory : ℕ) (map : List ℕ) {judged : FrameJudged} → FrameOutcome card wins frame memory map judged
+  judged-made : (wins : Bool) (frame : List ℕ) (seen : Seen) {judged : FrameJudged} → FrameOutcome card wins frame seen judged
       → Made (judged .stepped .card)
-  judged-made wins frame memory map (unheard n listed) = made
-  judged-made wins frame memory map damaged = damage-made card made
-  judged-made wins frame memory map (commands index argument is lent) = command-made card wins index argument made
+  judged-made wins frame seen (unheard n listed) = made
+  judged-made wins frame seen damaged = damage-made card made
+  judged-made wins frame seen (commands index argument is lent) = command-made card wins index argument made
 
   -- with bit 15, where an erase spared a sector
   spared-made : (stepped : Stepped) → Made (stepped .card) → Made (sparedTold stepped true .card)
@@ -87,12 +87,12 @@ module _ (card : Card) (made : Made card) where
             (set-pending (next .link .errors) (errorBit 15) refl (m .link .errors));
       }
 
-  frame-made : (wins : Bool) (frame : List ℕ) (memory : ℕ) (map : List ℕ) → Made (frameStepped card wins frame memory map .card)
+  frame-made : (wins : Bool) (frame : List ℕ) (seen : Seen) → Made (frameStepped card wins frame seen .card)
   unfolding frameStepped
-  frame-made wins frame memory map =
-      let stepped : Stepped = frameJudged card wins frame memory map .stepped in
-      let m : Made (stepped .card) = judged-made wins frame memory map (frame-outcome card wins frame memory map) in
-      told (λ (s : Stepped). Made (s .card)) stepped (spares card memory map (frameJudged card wins frame memory map .change)) (spared-made stepped m) m
+  frame-made wins frame seen =
+      let stepped : Stepped = frameJudged card wins frame seen .stepped in
+      let m : Made (stepped .card) = judged-made wins frame seen (frame-outcome card wins frame seen) in
+      told (λ (s : Stepped). Made (s .card)) stepped (spares card seen (frameJudged card wins frame seen .change)) (spared-made stepped m) m
 
 -- ---- work done and power-on
 worked-waits : (groups length : ℕ) (locked : Bool) (state : State) → Waits groups length locked state → Waits groups length locked (workedState state)
@@ -133,12 +133,12 @@ powered-on-made card made =
     }
 
 -- ---- every call
-pub step-made : (card : Card) (call : Call) (input : List ℕ) (memory : ℕ) (map : List ℕ) (room : ℕ) → Made card → Made (stepOf card call input memory map room .card)
-step-made card (Frame wins) input memory map room made = frame-made card made wins input memory map
-step-made card BlockIn input memory map room made = block-in-made card made input memory map
-step-made card BlockOut input memory map room made = block-out-made card made memory map room
-step-made card WorkDone input memory map room made = worked-made card made
-step-made card PowerOn input memory map room made = powered-on-made card made
+pub step-made : (card : Card) (call : Call) (input : List ℕ) (seen : Seen) (room : ℕ) → Made card → Made (stepOf card call input seen room .card)
+step-made card (Frame wins) input seen room made = frame-made card made wins input seen
+step-made card BlockIn input seen room made = block-in-made card made input seen
+step-made card BlockOut input seen room made = block-out-made card made seen room
+step-made card WorkDone input seen room made = worked-made card made
+step-made card PowerOn input seen room made = powered-on-made card made
 
 -- ---- making
 module _ (registers : Registers) (right : MadeRegisters registers) where

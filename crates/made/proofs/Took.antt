@@ -1,7 +1,11 @@
--- Every way in which a command can go, as far as what is lent is concerned: one list, and each command is on it, whatever the record is.
---   Took           stopped on the way; CMD0; obeyed, having passed the lock
---   took           each command is one of these
---   took-nothing   one that sets no group, clears none and erases nothing changes nothing that is lent
+-- Every way in which a command can go, as far as what is lent is concerned: one list, and each command is on it, whatever the record is. What an
+-- answer does to the error bits is no part of it: a second mode that answers in its own way shows `took` of its commands by `acted-took` and
+-- `answered-took`, as MMC mode does.
+--   Took            stopped on the way; CMD0; obeyed, having passed the lock
+--   acted-took      what a taken command does is one of these, in any mode
+--   answered-took   and so it is with other error bits
+--   took            each command of MMC mode is one of these
+--   took-nothing    one that sets no group, clears none and erases nothing changes nothing that is lent
 -- Assumes nothing.
 use mathlib.Core.Path.{_≡_, refl}
 use mathlib.Core.Bool.{Bool, true, false}
@@ -10,13 +14,14 @@ use borrow.Author.Tests.{eqb-true}
 use lib.Dec.{eqb}
 use Rattle.base.proofs.Cases.{picked, clash}
 use Rattle.base.specs.Choice.{unless}
-use Rattle.command.specs.Answers.{silent, answered}
-use Rattle.command.specs.Command.{receivedOf, concluded, takenOf, movedBy, commandOf}
-use Rattle.command.specs.Obey.{passesLock, taggingOf, judgedOf, changeOf}
+use Rattle.command.specs.Answers.{answered}
+use Rattle.command.specs.Command.{receivedOf, takenOf, movedBy, commandOf}
+use Rattle.command.specs.Obey.{passesLock, taggingOf, judgedOf, changeOf, afterChecks, actedOf}
+use Rattle.command.specs.declared.Acted.{Acted}
+use Rattle.command.specs.declared.Change.{Change}
 use Rattle.command.specs.declared.Change.the-variants.{Nothing}
 use Rattle.command.specs.declared.Commanded.{Commanded}
 use Rattle.command.specs.declared.Met.{Met}
-use Rattle.command.specs.declared.Sent.{Sent}
 use Rattle.moves.specs.Moves.{moveOf}
 use Rattle.moves.specs.Rows.{rowOf}
 use Rattle.moves.specs.declared.Move.{Move}
@@ -28,6 +33,7 @@ use Rattle.card_record.specs.declared.Link.{Link}
 use Rattle.states.specs.States.{columnOf}
 use Rattle.states.specs.declared.Column.{Column}
 use Rattle.status.specs.ErrorBits.{errorBit}
+use Rattle.status.specs.Status.{noErrors}
 use Rattle.status.specs.declared.ErrorBit.{ErrorBit}
 use Rattle.status.specs.declared.Errors.{Errors}
 use Rattle.status.specs.declared.Fault.{Fault}
@@ -37,11 +43,13 @@ use Rattle.tags.specs.declared.Tagging.{Tagging}
 use Rattle.tags.specs.declared.Tags.{Tags}
 
 module _ (link : Link) (met : Met) (index argument : ℕ) where
-  pub data Took : Commanded → Type 0 where
-    stopped : (tags : Tags) (errors : Errors) (sent : Sent) → Took (record { link = withErrors (withTags link tags) errors; sent = sent; change = Nothing })
-    reset : index ≡ 0 → Took (silent freshLink)
-    obeyed : (next : Link) (sent : Sent) → passesLock (met .locked) index ≡ true → Took (record { link = next; sent = sent; change = changeOf index argument })
+  -- the link that a command leaves, and what it changes in what is lent
+  pub data Took : Link → Change → Type 0 where
+    stopped : (tags : Tags) (errors : Errors) → Took (withErrors (withTags link tags) errors) Nothing
+    reset : (errors : Errors) → index ≡ 0 → Took (withErrors freshLink errors) Nothing
+    obeyed : (next : Link) → passesLock (met .locked) index ≡ true → Took next (changeOf index argument)
 
+  -- ---- any mode
   no-error : (t : Bool) (bit : ErrorBit) (rest : Tagging) → unless t (tagFailed bit) rest .error ≡ None → t ≡ true
   no-error true bit rest e = refl
   no-error false bit rest e = clash cc
@@ -50,33 +58,45 @@ module _ (link : Link) (met : Met) (index argument : ℕ) where
   unfolding judgedOf
   passes e = no-error (passesLock (met .locked) index) (errorBit 24) (taggingOf link (sizeOf (met .groups)) index argument) e
 
-  concludes : (row : Row) (column : Column) (tags : Tags) (fault : Fault) → (fault ≡ None → passesLock (met .locked) index ≡ true)
-      → Took (concluded link met (receivedOf link met index argument) row column tags fault)
-  unfolding concluded answered
-  concludes row column tags None p = obeyed _ _ (p refl)
-  concludes row column tags (Bit bit) p = stopped tags _ _
+  abbrev Acting : Acted → Type 0
+  Acting acted = Took (acted .link) (acted .change)
 
-  takes : (row : Row) (column : Column) → Took (takenOf link met (receivedOf link met index argument) row column)
-  unfolding takenOf
-  takes row column =
-      picked Took (eqb index 0) (λ t. reset (eqb-true index 0 t)) (λ t. concludes row column _ _ passes)
+  checked : (column : Column) (tags : Tags) (fault : Fault) → (fault ≡ None → passesLock (met .locked) index ≡ true)
+      → Acting (afterChecks link index argument column tags fault)
+  unfolding afterChecks
+  checked column tags None p = obeyed _ (p refl)
+  checked column tags (Bit bit) p = stopped tags (link .errors)
 
-  moves : (row : Row) (move : Move) → Took (movedBy link met (receivedOf link met index argument) row move)
-  moves row Ignored = stopped (link .tags) (link .errors) _
-  moves row Silent = stopped (link .tags) (link .errors) _
-  moves row Illegal = stopped (link .tags) _ _
-  moves row (To column) = takes row column
+  pub acted-took : (column : Column) → Acting (actedOf link met index argument column)
+  unfolding actedOf freshLink
+  acted-took column = picked Acting (eqb index 0) (λ t. reset noErrors (eqb-true index 0 t)) (λ t. checked column _ _ passes)
 
-  pub took : Took (commandOf link met index argument)
+  pub answered-took : {next : Link} {change : Change} (errors : Errors) → Took next change → Took (withErrors next errors) change
+  answered-took errors (stopped tags e) = stopped tags errors
+  answered-took errors (reset e i) = reset errors i
+  answered-took errors (obeyed next p) = obeyed (withErrors next errors) p
+
+  -- ---- MMC mode
+  abbrev Commands : Commanded → Type 0
+  Commands given = Took (given .link) (given .change)
+
+  moves : (row : Row) (move : Move) → Commands (movedBy link met (receivedOf link met index argument) row move)
+  unfolding takenOf answered
+  moves row Ignored = stopped (link .tags) (link .errors)
+  moves row Silent = stopped (link .tags) (link .errors)
+  moves row Illegal = stopped (link .tags) _
+  moves row (To column) = answered-took _ (acted-took column)
+
+  pub took : Commands (commandOf link met index argument)
   unfolding commandOf
   took =
       let row : Row = rowOf (receivedOf link met index argument) in
       moves row (moveOf row (columnOf (link .state)))
 
-  nothing : changeOf index argument ≡ Nothing → {commanded : Commanded} → Took commanded → commanded .change ≡ Nothing
-  nothing none (stopped tags errors sent) = refl
-  nothing none (reset i) = refl
-  nothing none (obeyed next sent p) = none
+  nothing : changeOf index argument ≡ Nothing → {next : Link} {change : Change} → Took next change → change ≡ Nothing
+  nothing none (stopped tags errors) = refl
+  nothing none (reset errors i) = refl
+  nothing none (obeyed next p) = none
 
   pub took-nothing : changeOf index argument ≡ Nothing → commandOf link met index argument .change ≡ Nothing
   took-nothing none = nothing none took

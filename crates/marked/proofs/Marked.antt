@@ -19,8 +19,8 @@ use Rattle.card.specs.Frame.{frameJudged, frameStepped as cardFrameOf}
 use Rattle.command.specs.Sending.{sentBytes}
 use Rattle.command.specs.Answers.{responseOf, answered}
 use Rattle.command.specs.Arguments.{argumentFault}
-use Rattle.command.specs.Command.{resetTold, concluded, takenOf, commandOf}
-use Rattle.command.specs.Obey.{taggingOf, judgedOf, awaitedBy, obeyed, changeOf}
+use Rattle.command.specs.Command.{takenOf, commandOf}
+use Rattle.command.specs.Obey.{taggingOf, judgedOf, resetTold, awaitedBy, obeyed, changeOf, afterChecks, actedOf}
 use Rattle.crc.specs.Bits.{bits}
 use Rattle.crc.specs.Crc.{divide, remainder, checkSum, crc16}
 use Rattle.busline_records.specs.Transcript.{transcript}
@@ -31,6 +31,7 @@ use Rattle.moves.specs.Rows.{transferRow, rowOf}
 use Rattle.card_record.specs.Power.{freshLink}
 use Rattle.card_record.specs.declared.Card.{Card}
 use Rattle.status.specs.Status.{wordOf}
+use Rattle.store.specs.Lent.{seenOf}
 use Rattle.store.specs.Map.{entriesRight}
 use Rattle.wire.specs.Frames.{crc7Of, sealed, fieldsOf, framingOf, frameOf}
 use Rattle.wire.specs.Responses.{r1Frame}
@@ -43,10 +44,10 @@ use Rattle.marked.specs.Marked.{cardIn, all, marked}
 
 -- what our card puts on the line for a frame, lent a memory of 8,192 bytes and its map
 abbrev pub ours : Card → List ℕ → List ℕ
-ours card frame = sentBytes (card .registers) (cardFrameOf card true frame 8192 (0 ∷ []) .reply .sent)
+ours card frame = sentBytes (card .registers) (cardFrameOf card true frame (seenOf 8192 (0 ∷ [])) .reply .sent)
 
 pub marked-hold : all frameOf ours crc16 transcript marked
-unfolding cardIn holding freshLink cardFrameOf frameJudged entriesRight commandOf takenOf concluded judgedOf taggingOf argumentFault resetTold obeyed awaitedBy changeOf responseOf answered wordOf classOf moveOf rowOf transferRow sentBytes r1Frame sealed frameOf framingOf fieldsOf crc7Of crc16 checkSum remainder divide bits
+unfolding cardIn holding freshLink cardFrameOf frameJudged entriesRight commandOf takenOf actedOf afterChecks judgedOf taggingOf argumentFault resetTold obeyed awaitedBy changeOf responseOf answered wordOf classOf moveOf rowOf transferRow sentBytes r1Frame sealed frameOf framingOf fieldsOf crc7Of crc16 checkSum remainder divide bits
 marked-hold = (refl, (refl, (refl, (refl, (refl, (refl, (refl, (refl, (eight-lines, tt)))))))))
 
 pub refusing : (reply : Card → List ℕ → List ℕ) (sum : List ℕ → ℕ) (play : List ℕ → List ℕ) (n : ℕ) → all (λ f. Refused (refusalOf n)) reply sum play marked → ⊥

@@ -5,15 +5,15 @@ use Rattle.bus.specs.Bus.{withCards, emptyBus, addedTo, commandAt, cardAfter, f
 use Rattle.command.specs.Sending.{sentBytes}
 use Rattle.command.specs.Answers.{responseOf, answered}
 use Rattle.command.specs.Arguments.{argumentFault}
-use Rattle.command.specs.Command.{resetTold, concluded, takenOf, commandOf}
-use Rattle.command.specs.Obey.{taggingOf, judgedOf, awaitedBy, obeyed, changeOf}
+use Rattle.command.specs.Command.{takenOf, commandOf}
+use Rattle.command.specs.Obey.{taggingOf, judgedOf, resetTold, awaitedBy, obeyed, changeOf, afterChecks, actedOf}
 use Rattle.crc.specs.Bits.{bits}
 use Rattle.crc.specs.Crc.{divide, remainder}
 use Rattle.busline_records.specs.Cards.{madeWith, cardMade}
 use Rattle.busline_records.specs.Printing.{shownText}
 use Rattle.busline_records.specs.Reading.{askedOf, registerOf}
 use Rattle.busline_records.specs.Record.{freshProgress, cardText, cardSaid, frameText, frameSaid, askedText, askedSaid}
-use Rattle.busline_records.specs.Transcript.{stepOf, transcript}
+use Rattle.busline_records.specs.Transcript.{recordStep, transcript}
 use Rattle.playing.specs.Playing.{playedIn, playedOf}
 use Rattle.shared_line.specs.Line.{line, contested, wins, together}
 use Rattle.text.specs.Lines.{numberText, hexText, endText, headText, wordLine, plainLine, namedLine}
@@ -31,5 +31,5 @@ use Rattle.wire.specs.Responses.{r1Frame, r2Frame, r3Frame, lastByte, registerR
 use Rattle.marked.specs.Marked.{night, eightLines}
 
 pub eight-lines : transcript night ≡ eightLines
-unfolding transcript playedOf playedIn stepOf askedText askedSaid askedOf freshProgress cardText cardSaid frameText frameSaid shownText registerOf madeWith cardMade emptyBus refusedMake addedTo withCards commandAt cardAfter frameFrom anyReady longestOf cidLine andLine lineOf padded commandFor busFrame line contested wins together madeOf passwordMade lockMadeOf poweredOf stored holding entriesRight freshLink commandOf takenOf concluded judgedOf taggingOf argumentFault resetTold obeyed awaitedBy changeOf responseOf answered wordOf classOf moveOf rowOf transferRow sentBytes r1Frame r2Frame r3Frame sealed framingOf fieldsOf crc7Of lastByte registerRight remainder divide bits numberText hexText endText headText wordLine plainLine namedLine hexOf digitsOf decimalOf
+unfolding transcript playedOf playedIn recordStep askedText askedSaid askedOf freshProgress cardText cardSaid frameText frameSaid shownText registerOf madeWith cardMade emptyBus refusedMake addedTo withCards commandAt cardAfter frameFrom anyReady longestOf cidLine andLine lineOf padded commandFor busFrame line contested wins together madeOf passwordMade lockMadeOf poweredOf stored holding entriesRight freshLink commandOf takenOf actedOf afterChecks judgedOf taggingOf argumentFault resetTold obeyed awaitedBy changeOf responseOf answered wordOf classOf moveOf rowOf transferRow sentBytes r1Frame r2Frame r3Frame sealed framingOf fieldsOf crc7Of lastByte registerRight remainder divide bits numberText hexText endText headText wordLine plainLine namedLine hexOf digitsOf decimalOf
 eight-lines = refl

@@ -17,8 +17,8 @@ use Rattle.bus.specs.declared.Shown.the-variants.{Line, Silent}
 use Rattle.command.specs.Sending.{sentBytes}
 use Rattle.command.specs.Answers.{responseOf, answered}
 use Rattle.command.specs.Arguments.{argumentFault}
-use Rattle.command.specs.Command.{resetTold, concluded, takenOf, commandOf}
-use Rattle.command.specs.Obey.{taggingOf, judgedOf, awaitedBy, obeyed, changeOf}
+use Rattle.command.specs.Command.{takenOf, commandOf}
+use Rattle.command.specs.Obey.{taggingOf, judgedOf, resetTold, awaitedBy, obeyed, changeOf, afterChecks, actedOf}
 use Rattle.crc.specs.Bits.{bits}
 use Rattle.crc.specs.Crc.{divide, remainder}
 use Rattle.shared_line.specs.Line.{line, contested, wins, together}
@@ -52,9 +52,9 @@ abbrev clones : Bus
 clones = busOf (replicate 480 0) 2
 
 clones-counted : answeredIn clones 2 ≡ 2 → ⊥
-unfolding answeredIn afterRounds busOf addedTo emptyBus readyCard cidAt freshLink refusedMake holding commandFrame sealed crc7Of remainder divide bits busFrame framingOf fieldsOf commandFor withCards lineOf cidLine andLine frameFrom anyReady longestOf sentBytes r1Frame r2Frame cardAfter commandAt commandOf takenOf concluded judgedOf taggingOf argumentFault resetTold obeyed awaitedBy changeOf responseOf answered wordOf classOf moveOf rowOf transferRow line contested wins together padded
+unfolding answeredIn afterRounds busOf addedTo emptyBus readyCard cidAt freshLink refusedMake holding commandFrame sealed crc7Of remainder divide bits busFrame framingOf fieldsOf commandFor withCards lineOf cidLine andLine frameFrom anyReady longestOf sentBytes r1Frame r2Frame cardAfter commandAt commandOf takenOf actedOf afterChecks judgedOf taggingOf argumentFault resetTold obeyed awaitedBy changeOf responseOf answered wordOf classOf moveOf rowOf transferRow line contested wins together padded
 clones-counted e = omega arith
 
 clones-apart : getD (addressesOf (afterRounds clones 2)) 1 0 ≡ 2 → ⊥
-unfolding afterRounds busOf addedTo emptyBus readyCard cidAt freshLink refusedMake holding commandFrame sealed crc7Of remainder divide bits busFrame framingOf fieldsOf commandFor withCards cardAfter commandAt commandOf takenOf concluded judgedOf taggingOf argumentFault obeyed awaitedBy responseOf answered classOf moveOf rowOf line contested wins together
+unfolding afterRounds busOf addedTo emptyBus readyCard cidAt freshLink refusedMake holding commandFrame sealed crc7Of remainder divide bits busFrame framingOf fieldsOf commandFor withCards cardAfter commandAt commandOf takenOf actedOf afterChecks judgedOf taggingOf argumentFault obeyed awaitedBy responseOf answered classOf moveOf rowOf line contested wins together
 clones-apart e = omega arith

@@ -29,8 +29,11 @@ meantBy entry.Silent = Silent
 meantBy entry.Illegal = Illegal
 
 -- the entry of a row in a state: a line for each row, against the ten states
+abbrev pub entryIn : List Entry → Column → Entry
+entryIn line column = getD line (columnNumber column) entry.Idle
+
 abbrev pub entryOf : List (List Entry) → Row → Column → Entry
-entryOf table row column = getD (getD table (rowNumber row) []) (columnNumber column) entry.Idle
+entryOf table row column = entryIn (getD table (rowNumber row) []) column
 
 unfoldable pub Ruled : List (List Entry) → Type 0
 Ruled table = (row : Row) (column : Column) → meantBy (entryOf table row column) ≡ moveOf row column

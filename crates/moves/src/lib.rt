@@ -9,9 +9,9 @@ use table::Entry;
 use table::MOVES;
 ghost use mathlib.Core.Path.{_≡_};
 ghost use Rattle.moves.specs.Classes.{classOf};
-ghost use Rattle.moves.specs.Moves.{rowNumber, moveOf};
+ghost use Rattle.moves.specs.Moves.{moveOf};
 ghost use Rattle.moves.specs.Rows.{own, window, opCondRow, cidRow, selectRow, forCard, transferRow, rowOf};
-ghost use Rattle.moves.specs.Table.{meantBy, Ruled};
+ghost use Rattle.moves.specs.Table.{meantBy, entryIn, entryOf, Ruled};
 
 // The standard's classes, as far as the base has commands of them.
 pub enum Class {
@@ -98,36 +98,7 @@ pub fn class_of(index: u8) -> Class
     }
 }
 
-// The place of a row in the table.
-fn row_number(row: Row) -> usize
-    ensures { λ r. ⌜ r ≡ rowNumber row ⌝ }
-{
-    match row {
-        Row::GoIdleState => 0,
-        Row::OpCondAsked => 1,
-        Row::OpCondShared => 2,
-        Row::OpCondApart => 3,
-        Row::AllSendCidWon => 4,
-        Row::AllSendCidLost => 5,
-        Row::SetRelativeAddr => 6,
-        Row::SetDsr => 7,
-        Row::SelectCard => 8,
-        Row::DeselectCard => 9,
-        Row::SendRegister => 10,
-        Row::StopTransmission => 11,
-        Row::SendStatus => 12,
-        Row::GoInactiveState => 13,
-        Row::SetOrTag => 14,
-        Row::Read => 15,
-        Row::Write => 16,
-        Row::Program => 17,
-        Row::OtherAddress => 18,
-        Row::Unsupported => 19,
-    }
-}
-
-// The table by its rule: the only place that names it, since a constant is built anew wherever it
-// is named.
+// The table by its rule: the only place that names it.
 fn legal_moves() -> [[Entry; 10]; 20]
     ensures { λ r. ⌜ Ruled r ⌝ }
 {
@@ -155,14 +126,59 @@ fn meant(entry: Entry) -> Move
     }
 }
 
+// The entry of a line in a state, by a literal place: what is indexed so is read from where the
+// constant stands, and the table is never laid out on the stack.
+fn entry_in(line: [Entry; 10], column: Column) -> Entry
+    ensures { λ r. ⌜ r ≡ entryIn line column ⌝ }
+{
+    match column {
+        Column::Idle => line[0],
+        Column::Ready => line[1],
+        Column::Ident => line[2],
+        Column::Stby => line[3],
+        Column::Tran => line[4],
+        Column::Data => line[5],
+        Column::Rcv => line[6],
+        Column::Prg => line[7],
+        Column::Dis => line[8],
+        Column::Ina => line[9],
+    }
+}
+
+// The entry of a row in a state, likewise.
+fn entry_at(table: [[Entry; 10]; 20], row: Row, column: Column) -> Entry
+    ensures { λ r. ⌜ r ≡ entryOf table row column ⌝ }
+{
+    match row {
+        Row::GoIdleState => entry_in(table[0], column),
+        Row::OpCondAsked => entry_in(table[1], column),
+        Row::OpCondShared => entry_in(table[2], column),
+        Row::OpCondApart => entry_in(table[3], column),
+        Row::AllSendCidWon => entry_in(table[4], column),
+        Row::AllSendCidLost => entry_in(table[5], column),
+        Row::SetRelativeAddr => entry_in(table[6], column),
+        Row::SetDsr => entry_in(table[7], column),
+        Row::SelectCard => entry_in(table[8], column),
+        Row::DeselectCard => entry_in(table[9], column),
+        Row::SendRegister => entry_in(table[10], column),
+        Row::StopTransmission => entry_in(table[11], column),
+        Row::SendStatus => entry_in(table[12], column),
+        Row::GoInactiveState => entry_in(table[13], column),
+        Row::SetOrTag => entry_in(table[14], column),
+        Row::Read => entry_in(table[15], column),
+        Row::Write => entry_in(table[16], column),
+        Row::Program => entry_in(table[17], column),
+        Row::OtherAddress => entry_in(table[18], column),
+        Row::Unsupported => entry_in(table[19], column),
+    }
+}
+
 // Where a row leads from a state.
 pub fn next(row: Row, column: Column) -> Move
     ensures answer { λ r. ⌜ r ≡ moveOf row column ⌝ }
 {
     let table = legal_moves();
-    let line = row_number(row);
-    let place = states::number(column) as usize;
-    let entry = table[line][place];
+    let entry = entry_at(table, row, column);
     meant(entry)
 }
 

@@ -1,6 +1,5 @@
 // Document 01's legal moves as one fixed table: a line for each `Row`, in its order, against the ten
-// states. An entry is one byte and holds nothing, since the table is laid out anew wherever it is
-// named: entries that hold a state leave gaps, around which it is stored piece by piece.
+// states. An entry is one byte and holds nothing.
 
 // The state that a command leads to, or the mark of one with no move.
 pub enum Entry {

@@ -10,44 +10,39 @@ use lib.Dec.{eqb}
 use Rattle.base.specs.Choice.{pick}
 use Rattle.command.specs.Answers.{responseOf, answered, leftOf}
 use Rattle.command.specs.Arguments.{argumentFault}
-use Rattle.command.specs.Command.{resetTold, concluded, takenOf, commandOf}
-use Rattle.command.specs.Obey.{taggingOf, judgedOf, awaitedBy, obeyed}
+use Rattle.command.specs.Command.{takenOf, commandOf}
+use Rattle.command.specs.Obey.{taggingOf, judgedOf, resetTold, awaitedBy, obeyed, afterChecks, actedOf}
 use Rattle.command.specs.declared.Met.{Met}
 use Rattle.command.specs.declared.Response.the-variants.{R2}
 use Rattle.moves.specs.Classes.{classOf}
 use Rattle.moves.specs.Moves.{moveOf}
 use Rattle.moves.specs.Rows.{rowOf}
+use Rattle.card_record.specs.Record.{withState, withErrors, withTags}
 use Rattle.card_record.specs.declared.Link.{Link}
 use Rattle.states.specs.States.{columnOf, columnNumber}
 use Rattle.states.specs.declared.State.{State}
 use Rattle.states.specs.declared.State.the-variants.{Idle, Ready, Ident, Stby, Tran, Data, Rcv, Prg, Dis, Ina}
-use Rattle.status.specs.Status.{noErrors}
-use Rattle.status.specs.declared.Errors.{Errors}
 use Rattle.tags.specs.Tagging.{noTags}
-use Rattle.tags.specs.declared.Tags.{Tags}
+use Rattle.rounds.specs.Demand3.{stood}
 
 -- ---- CMD2
 -- the link of a card that won: which error bits are pending is no matter here, since CMD3 clears them all
 abbrev pub identified : Link → Link
-identified link =
-    record { state = Ident; address = link .address; length = link .length; errors = leftOf R2 (resetTold link 2); tags = noTags }
-
-abbrev pub linkOf : State → ℕ → ℕ → Errors → Tags → Link
-linkOf state address length errors tags = record { state = state; address = address; length = length; errors = errors; tags = tags }
+identified link = withTags (withErrors (withState link Ident) (leftOf R2 (resetTold link 2))) noTags
 
 abbrev pub metOf : ℕ → ℕ → Bool → Bool → Met
 metOf ocr groups locked wins = record { ocr = ocr; groups = groups; locked = locked; wins = wins }
 
-module _ (address length : ℕ) (errors : Errors) (tags : Tags) (ocr groups argument : ℕ) where
-  won : (locked : Bool) → commandOf (linkOf Ready address length errors tags) (metOf ocr groups locked true) 2 argument .link
-      ≡ identified (linkOf Ready address length errors tags)
-  unfolding commandOf rowOf moveOf takenOf judgedOf taggingOf argumentFault classOf concluded answered responseOf obeyed awaitedBy
+module _ (link : Link) (ocr groups argument : ℕ) where
+  won : (locked : Bool) → commandOf (withState link Ready) (metOf ocr groups locked true) 2 argument .link
+      ≡ identified (withState link Ready)
+  unfolding commandOf rowOf moveOf takenOf actedOf judgedOf taggingOf argumentFault classOf afterChecks answered responseOf obeyed awaitedBy
   won true = refl
   won false = refl
 
   -- in any other state it is silent
-  sent : (locked : Bool) (state : State) → commandOf (linkOf state address length errors tags) (metOf ocr groups locked true) 2 argument .link
-      ≡ pick (eqb (columnNumber (columnOf state)) 1) (identified (linkOf state address length errors tags)) (linkOf state address length errors tags)
+  sent : (locked : Bool) (state : State) → commandOf (withState link state) (metOf ocr groups locked true) 2 argument .link
+      ≡ pick (eqb (columnNumber (columnOf state)) 1) (identified (withState link state)) (withState link state)
   unfolding commandOf rowOf moveOf
   sent locked Idle = refl
   sent locked Ready = won locked
@@ -60,8 +55,8 @@ module _ (address length : ℕ) (errors : Errors) (tags : Tags) (ocr groups argu
   sent locked Dis = refl
   sent locked Ina = refl
 
-  lost : (locked : Bool) (state : State) → commandOf (linkOf state address length errors tags) (metOf ocr groups locked false) 2 argument .link
-      ≡ linkOf state address length errors tags
+  lost : (locked : Bool) (state : State) → commandOf (withState link state) (metOf ocr groups locked false) 2 argument .link
+      ≡ withState link state
   unfolding commandOf rowOf moveOf
   lost locked Idle = refl
   lost locked Ready = refl
@@ -78,24 +73,20 @@ pub cid-sent : (link : Link) (ocr groups : ℕ) (locked wins : Bool) (argument :
     → commandOf link (metOf ocr groups locked wins) 2 argument .link
     ≡ pick (wins && eqb (columnNumber (columnOf (link .state))) 1) (identified link) link
 cid-sent link ocr groups locked true argument =
-    sent (link .address) (link .length) (link .errors) (link .tags) ocr groups argument locked (link .state)
+    sent link ocr groups argument locked (link .state)
 cid-sent link ocr groups locked false argument =
-    lost (link .address) (link .length) (link .errors) (link .tags) ocr groups argument locked (link .state)
+    lost link ocr groups argument locked (link .state)
 
 -- ---- CMD3
--- the link of a card that took an address
-abbrev pub stood : ℕ → Link → Link
-stood address link = record { state = Stby; address = address; length = link .length; errors = noErrors; tags = noTags }
-
-module _ (address length : ℕ) (errors : Errors) (tags : Tags) (ocr groups : ℕ) (wins : Bool) (given argument : ℕ) (some : 1 ≤ given) (high : argument / 65536 ≡ given) where
-  accepted : (locked : Bool) → commandOf (linkOf Ident address length errors tags) (metOf ocr groups locked wins) 3 argument .link
-      ≡ stood given (linkOf Ident address length errors tags)
-  unfolding commandOf rowOf moveOf takenOf judgedOf taggingOf argumentFault classOf concluded answered responseOf obeyed awaitedBy
+module _ (link : Link) (ocr groups : ℕ) (wins : Bool) (given argument : ℕ) (some : 1 ≤ given) (high : argument / 65536 ≡ given) where
+  accepted : (locked : Bool) → commandOf (withState link Ident) (metOf ocr groups locked wins) 3 argument .link
+      ≡ stood given (withState link Ident)
+  unfolding commandOf rowOf moveOf takenOf actedOf judgedOf taggingOf argumentFault classOf afterChecks answered responseOf obeyed awaitedBy
   accepted true = rw (high, le-leb 1 given some, high)
   accepted false = rw (high, le-leb 1 given some, high)
 
-  taken : (locked : Bool) (state : State) → commandOf (linkOf state address length errors tags) (metOf ocr groups locked wins) 3 argument .link
-      ≡ pick (eqb (columnNumber (columnOf state)) 2) (stood given (linkOf state address length errors tags)) (linkOf state address length errors tags)
+  taken : (locked : Bool) (state : State) → commandOf (withState link state) (metOf ocr groups locked wins) 3 argument .link
+      ≡ pick (eqb (columnNumber (columnOf state)) 2) (stood given (withState link state)) (withState link state)
   unfolding commandOf rowOf moveOf
   taken locked Idle = refl
   taken locked Ready = refl
@@ -112,4 +103,4 @@ pub address-taken : (link : Link) (ocr groups : ℕ) (locked wins : Bool) (addre
     → commandOf link (metOf ocr groups locked wins) 3 argument .link
     ≡ pick (eqb (columnNumber (columnOf (link .state))) 2) (stood address link) link
 address-taken link ocr groups locked wins address argument some high =
-    taken (link .address) (link .length) (link .errors) (link .tags) ocr groups wins address argument some high locked (link .state)
+    taken link ocr groups wins address argument some high locked (link .state)

@@ -24,10 +24,10 @@ use Rattle.shared_line.specs.Line.{Sender, contested}
 use Rattle.card_record.specs.Record.{withLink}
 use Rattle.card_record.specs.declared.Card.{Card}
 use Rattle.card_record.specs.declared.Link.{Link}
-use Rattle.rounds.proofs.Commands.{identified, stood, cid-sent, address-taken}
+use Rattle.rounds.proofs.Commands.{identified, cid-sent, address-taken}
 use Rattle.rounds.proofs.Distinct.{distinct-ascending, distinct-has, distinct-from, first-under}
 use Rattle.rounds.proofs.Reach.{map-on, map-id, one, roundBy, ready-member, ready-from}
-use Rattle.rounds.specs.Demand3.{identifier, cidOf, readyIdentifiers, reached, CidBytes, isIdent}
+use Rattle.rounds.specs.Demand3.{identifier, cidOf, readyIdentifiers, stood, reached, CidBytes, isIdent}
 use Rattle.rounds.specs.Distinct.{distinct, Ascending}
 
 -- ---- what is asked of the cards

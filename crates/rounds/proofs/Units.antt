@@ -7,7 +7,6 @@ use mathlib.Core.Path.{_≡_, refl, sym, ap, _∙_}
 use mathlib.Core.Bool.{Bool, true, false}
 use mathlib.Core.List.{List, [], _∷_, map}
 use Prim.Native.Nat.{ℕ, _≤_, _<_}
-use native.Mathlib.Omega.{arith}
 use borrow.Author.Tests.{le-leb}
 use lib.ListN.{length, getD}
 use Rattle.base.proofs.Cases.{cases}
@@ -17,10 +16,9 @@ use Rattle.bus.specs.Bus.{countOf, cardsOf, withCards, winsLine, commandAt, car
 use Rattle.bus.specs.declared.Bus.{Bus}
 use Rattle.bus.specs.declared.Framed.{Framed as Answered}
 use Rattle.bus.specs.declared.Shown.the-variants.{Refused}
-use Rattle.card.specs.Frame.{framed, spares, sparedTold, frameStepped}
+use Rattle.card.specs.Frame.{FrameJudged, framed, frameTold, frameStepped}
 use Rattle.card.specs.Step.{stepOf}
 use Rattle.card.specs.declared.Call.the-variants.{Frame}
-use Rattle.card.specs.declared.FrameJudged.{FrameJudged}
 use Rattle.card.specs.declared.Stepped.{Stepped}
 use Rattle.command.specs.Command.{metBy}
 use Rattle.command.specs.Obey.{changeOf}
@@ -33,7 +31,8 @@ use Rattle.moves.proofs.Among.{each}
 use Rattle.moves.specs.Indices.{among}
 use Rattle.card_record.specs.Making.{refusedMake}
 use Rattle.card_record.specs.declared.Card.{Card}
-use Rattle.store.specs.Map.{lentRight}
+use Rattle.store.specs.Lent.{Lent, seen, lendingOf}
+use Rattle.store.specs.declared.Lending.the-variants.{Right}
 use Rattle.wire.specs.Frames.{framingOf, checked, frameOf}
 use Rattle.wire.specs.declared.Framing.{Framing}
 use Rattle.wire.specs.declared.Framing.the-variants.{Framed, Unframed}
@@ -49,13 +48,13 @@ listed-none index argument =
     each (λ (k : ℕ). changeOf k argument ≡ Nothing) busIndices
     (refl, (refl, (refl, (refl, (refl, (refl, (refl, (refl, (refl, (refl, tt)))))))))) index
 
-pub unit-commanded : (cards : List Card) (card : Card) (frame memory map out : List ℕ) (index argument : ℕ)
-    → Reads card frame memory map index argument → among index busIndices ≡ true
-    → Unlent card (winsLine cards card) frame memory map out (commandAt cards index argument card)
+pub unit-commanded : (cards : List Card) (card : Card) (frame : List ℕ) (lent : Lent) (out : List ℕ) (index argument : ℕ)
+    → Reads card frame lent index argument → among index busIndices ≡ true
+    → Unlent card (winsLine cards card) frame lent out (commandAt cards index argument card)
 unfolding commandAt
-unit-commanded cards card frame memory map out index argument reads listed =
+unit-commanded cards card frame lent out index argument reads listed =
     let met : Met = metBy card (winsLine cards card) in
-    unlent card (winsLine cards card) frame memory map out index argument reads
+    unlent card (winsLine cards card) frame lent out index argument reads
     (took-nothing (card .link) met index argument (listed-none index argument listed))
 
 -- ---- any frame
@@ -94,31 +93,31 @@ module _ (bus : Bus) (frame : List ℕ) (some : 1 ≤ countOf bus) (heard : busF
   framed-after (Framed index argument true) e = rw (listed index argument e) (each-after (cardAfter (cardsOf bus) index argument))
   framed-after (Framed index argument false) e = each-after damagedCard
 
-  module _ (cards : List Card) (card : Card) (memory lent out : List ℕ) (right : lentRight (length memory) lent (card .registers .groups) ≡ true) where
+  module _ (cards : List Card) (card : Card) (lent : Lent) (out : List ℕ) (right : lendingOf (seen lent) (card .registers .groups) ≡ Right) where
     abbrev wins : Bool
     wins = winsLine cards card
 
     stepped-as : (framing : Framing) → framingOf frame ≡ framing
-        → frameStepped card wins frame (length memory) lent .card
-        ≡ sparedTold (framed card wins framing .stepped) (spares card (length memory) lent (framed card wins framing .change)) .card
+        → frameStepped card wins frame (seen lent) .card
+        ≡ frameTold card (seen lent) (framed card wins framing) .card
     unfolding frameStepped
     stepped-as framing e =
-        ap (λ (j : FrameJudged). sparedTold (j .stepped) (spares card (length memory) lent (j .change)) .card) (judged-as card wins frame (length memory) lent right framing e)
+        ap (λ (j : FrameJudged). frameTold card (seen lent) j .card) (judged-as card wins frame (seen lent) right framing e)
 
-    unit-after : (framing : Framing) → framingOf frame ≡ framing → frameStepped card wins frame (length memory) lent .card ≡ afterFraming cards framing card
+    unit-after : (framing : Framing) → framingOf frame ≡ framing → frameStepped card wins frame (seen lent) .card ≡ afterFraming cards framing card
     unfolding frameOf cardAfter
     unit-after (Unframed refusal) e = stepped-as (Unframed refusal) e
     unit-after (Framed index argument true) e =
         ap (λ (s : Stepped). s .card)
-        (unit-commanded cards card frame memory lent out index argument (record { lent = right; command = ap checked e }) (listed index argument e) .step)
+        (unit-commanded cards card frame lent out index argument (record { right = right; command = ap checked e }) (listed index argument e) .step)
     unit-after (Framed index argument false) e = stepped-as (Framed index argument false) e
 
-  pub unit-is-card : (place : ℕ) (memory lent out : List ℕ) → place < length (cardsOf bus)
-      → lentRight (length memory) lent (cardAt bus place .registers .groups) ≡ true
-      → stepOf (cardAt bus place) (Frame (winsLine (cardsOf bus) (cardAt bus place))) frame (length memory) lent (length out) .card
+  pub unit-is-card : (place : ℕ) (lent : Lent) (out : List ℕ) → place < length (cardsOf bus)
+      → lendingOf (seen lent) (cardAt bus place .registers .groups) ≡ Right
+      → stepOf (cardAt bus place) (Frame (winsLine (cardsOf bus) (cardAt bus place))) frame (seen lent) (length out) .card
       ≡ cardAt (busFrame bus frame .bus) place
-  unit-is-card place memory lent out there right =
-      unit-after (cardsOf bus) (cardAt bus place) memory lent out right (framingOf frame) refl
+  unit-is-card place lent out there right =
+      unit-after (cardsOf bus) (cardAt bus place) lent out right (framingOf frame) refl
       ∙ sym
       (ap (λ (a : Answered). cardAt (a .bus) place) reached
       ∙ ap (λ (cards : List Card). getD cards place refusedMake) (framed-after (framingOf frame) refl)

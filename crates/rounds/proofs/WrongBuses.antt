@@ -23,8 +23,8 @@ use Rattle.bus.specs.declared.Shown.the-variants.{Line, Silent}
 use Rattle.command.specs.Sending.{sentBytes}
 use Rattle.command.specs.Answers.{responseOf, answered}
 use Rattle.command.specs.Arguments.{argumentFault}
-use Rattle.command.specs.Command.{metBy, resetTold, concluded, takenOf, commandOf}
-use Rattle.command.specs.Obey.{taggingOf, judgedOf, awaitedBy, obeyed, changeOf}
+use Rattle.command.specs.Command.{metBy, takenOf, commandOf}
+use Rattle.command.specs.Obey.{taggingOf, judgedOf, resetTold, awaitedBy, obeyed, changeOf, afterChecks, actedOf}
 use Rattle.crc.specs.Bits.{bits, Below}
 use Rattle.crc.specs.Crc.{divide, remainder}
 use Rattle.shared_line.specs.Line.{line, contested, wins, together}
@@ -164,7 +164,7 @@ abbrev shownBy : ℕ → Shown
 shownBy k = answer (hasty busFrame) two (rounds 0 0) k .shown
 
 hasty-shows : (shownBy 0 ≡ Line 17) × (shownBy 1 ≡ Silent)
-unfolding hasty roundsOf refusedMake holding commandFrame sealed crc7Of remainder divide bits busFrame framingOf fieldsOf commandFor withCards lineOf cidLine andLine frameFrom anyReady longestOf sentBytes r1Frame r2Frame cardAfter commandAt commandOf takenOf concluded judgedOf taggingOf argumentFault resetTold obeyed awaitedBy changeOf responseOf answered wordOf classOf moveOf rowOf transferRow line contested wins together padded
+unfolding hasty roundsOf refusedMake holding commandFrame sealed crc7Of remainder divide bits busFrame framingOf fieldsOf commandFor withCards lineOf cidLine andLine frameFrom anyReady longestOf sentBytes r1Frame r2Frame cardAfter commandAt commandOf takenOf actedOf afterChecks judgedOf taggingOf argumentFault resetTold obeyed awaitedBy changeOf responseOf answered wordOf classOf moveOf rowOf transferRow line contested wins together padded
 hasty-shows = (refl, refl)
 
 pub hasty-refuted : Demand3 (hasty busFrame) → ⊥
@@ -177,7 +177,7 @@ hasty-refuted d =
 
 -- and whatever it shows, the card that should be reached in round 2 has the address of round 1
 hasty-address : (says : Step) → cardAt (before (hasty says) two (rounds 0 0) 2) 0 .link .address ≡ 1
-unfolding hasty roundsOf refusedMake holding commandFrame sealed crc7Of remainder divide bits busFrame framingOf fieldsOf commandFor withCards cardAfter commandAt commandOf takenOf concluded judgedOf taggingOf argumentFault obeyed awaitedBy responseOf answered classOf moveOf rowOf
+unfolding hasty roundsOf refusedMake holding commandFrame sealed crc7Of remainder divide bits busFrame framingOf fieldsOf commandFor withCards cardAfter commandAt commandOf takenOf actedOf afterChecks judgedOf taggingOf argumentFault obeyed awaitedBy responseOf answered classOf moveOf rowOf
 hasty-address says = refl
 
 pub hasty-late : (says : Step) → Demand3 (hasty says) → ⊥
@@ -205,7 +205,7 @@ strict-refuted d =
 
 -- the second card has won round 1, and is still in Identification after CMD3
 strict-state : columnNumber (columnOf (cardAt (before strict two (rounds 0 1) 1) 1 .link .state)) ≡ 2
-unfolding strict roundsOf refusedMake holding commandFrame sealed crc7Of remainder divide bits busFrame framingOf fieldsOf commandFor withCards cardAfter commandAt commandOf takenOf concluded judgedOf taggingOf argumentFault obeyed awaitedBy responseOf answered classOf moveOf rowOf line contested wins
+unfolding strict roundsOf refusedMake holding commandFrame sealed crc7Of remainder divide bits busFrame framingOf fieldsOf commandFor withCards cardAfter commandAt commandOf takenOf actedOf afterChecks judgedOf taggingOf argumentFault obeyed awaitedBy responseOf answered classOf moveOf rowOf line contested wins
 strict-state = refl
 
 pub strict-late : Demand3 strict → ⊥

@@ -26,6 +26,7 @@ use Rattle.crc.specs.Bits.{bitsOf, bits, spelt, octets}
 use Rattle.card_record.specs.Making.{refusedMake}
 use Rattle.card_record.specs.Record.{withLink}
 use Rattle.card_record.specs.declared.Card.{Card}
+use Rattle.card_record.specs.declared.Link.{Link}
 use Rattle.states.specs.States.{columnOf, columnNumber}
 use Rattle.states.specs.declared.State.the-variants.{Stby}
 use Rattle.status.specs.Status.{noErrors}
@@ -113,11 +114,14 @@ identifiers bus = distinct (readyIdentifiers (cardsOf bus))
 abbrev pub nth : Bus → ℕ → ℕ
 nth bus k = getD (identifiers bus) k 0
 
--- a card with the address that it was reached with, in Stand-by. Its registers, its lock and its block length are as they were; no error bit
--- is pending, since the R1 of CMD3 showed and cleared them, and there are no tags, which CMD2 drops where an odd record held any
+-- a link with the address that it was reached with, in Stand-by. Its block length is as it was; no error bit is pending, since the R1 of CMD3
+-- showed and cleared them, and there are no tags, which CMD2 drops where an odd record held any
+abbrev pub stood : ℕ → Link → Link
+stood address link = record { state = Stby; address = address; length = link .length; errors = noErrors; tags = noTags }
+
+-- a card that was reached: its registers and its lock are as they were
 abbrev pub reached : ℕ → Card → Card
-reached address card =
-    withLink card (record { state = Stby; address = address; length = card .link .length; errors = noErrors; tags = noTags })
+reached address card = withLink card (stood address (card .link))
 
 -- the card in a place is in Ready and holds that identifier
 abbrev pub Holds : Bus → ℕ → ℕ → Type 0

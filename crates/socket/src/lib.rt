@@ -8,7 +8,8 @@ use card::Stepped;
 use card_record::Card;
 ghost use mathlib.Core.Path.{_≡_};
 ghost use lib.ListN.{length};
-ghost use Rattle.card.specs.Step.{stepOf, memoryOf, mapOf, outputOf};
+ghost use Rattle.card.specs.Step.{stepOf, lentAfter, outputOf};
+ghost use Rattle.store.specs.Lent.{lentOf, seen};
 
 // One call on a card in its place.
 pub fn socket(
@@ -19,11 +20,10 @@ pub fn socket(
     map: &mut [u8],
     out: &mut [u8],
 ) -> Reply
-    ensures answer { λ r. ⌜ r ≡ stepOf (now (card .entry)) call (now (input .entry)) (length (now (memory .entry))) (now (map .entry)) (length (now (out .entry))) .reply ⌝ }
-    ensures record { λ _. ⌜ now (card .exit) ≡ stepOf (now (card .entry)) call (now (input .entry)) (length (now (memory .entry))) (now (map .entry)) (length (now (out .entry))) .card ⌝ }
-    ensures memory { λ _. ⌜ now (memory .exit) ≡ memoryOf (now (card .entry)) call (now (input .entry)) (now (memory .entry)) (now (map .entry)) ⌝ }
-    ensures map { λ _. ⌜ now (map .exit) ≡ mapOf (now (card .entry)) call (now (input .entry)) (length (now (memory .entry))) (now (map .entry)) ⌝ }
-    ensures output { λ _. ⌜ now (out .exit) ≡ outputOf (now (card .entry)) call (now (memory .entry)) (now (map .entry)) (now (out .entry)) ⌝ }
+    ensures answer { λ r. ⌜ r ≡ stepOf (now (card .entry)) call (now (input .entry)) (seen (lentOf (now (memory .entry)) (now (map .entry)))) (length (now (out .entry))) .reply ⌝ }
+    ensures record { λ _. ⌜ now (card .exit) ≡ stepOf (now (card .entry)) call (now (input .entry)) (seen (lentOf (now (memory .entry)) (now (map .entry)))) (length (now (out .entry))) .card ⌝ }
+    ensures lent { λ _. ⌜ lentOf (now (memory .exit)) (now (map .exit)) ≡ lentAfter (now (card .entry)) call (now (input .entry)) (lentOf (now (memory .entry)) (now (map .entry))) ⌝ }
+    ensures output { λ _. ⌜ now (out .exit) ≡ outputOf (now (card .entry)) call (lentOf (now (memory .entry)) (now (map .entry))) (now (out .entry)) ⌝ }
 {
     let stepped = card::step(*card, call, input, memory, map, out);
     *card = stepped.card;
@@ -40,10 +40,9 @@ pub fn step_in_place(
     map: &mut [u8],
     out: &mut [u8],
 ) -> Stepped
-    ensures answer { λ r. ⌜ r ≡ stepOf card call (now (input .entry)) (length (now (memory .entry))) (now (map .entry)) (length (now (out .entry))) ⌝ }
-    ensures memory { λ _. ⌜ now (memory .exit) ≡ memoryOf card call (now (input .entry)) (now (memory .entry)) (now (map .entry)) ⌝ }
-    ensures map { λ _. ⌜ now (map .exit) ≡ mapOf card call (now (input .entry)) (length (now (memory .entry))) (now (map .entry)) ⌝ }
-    ensures output { λ _. ⌜ now (out .exit) ≡ outputOf card call (now (memory .entry)) (now (map .entry)) (now (out .entry)) ⌝ }
+    ensures answer { λ r. ⌜ r ≡ stepOf card call (now (input .entry)) (seen (lentOf (now (memory .entry)) (now (map .entry)))) (length (now (out .entry))) ⌝ }
+    ensures lent { λ _. ⌜ lentOf (now (memory .exit)) (now (map .exit)) ≡ lentAfter card call (now (input .entry)) (lentOf (now (memory .entry)) (now (map .entry))) ⌝ }
+    ensures output { λ _. ⌜ now (out .exit) ≡ outputOf card call (lentOf (now (memory .entry)) (now (map .entry))) (now (out .entry)) ⌝ }
 {
     let mut place = card;
     let reply = socket(&mut place, call, input, memory, map, out);

@@ -38,19 +38,19 @@ module _ (m : List ℕ) (t : Tags) (w : Bool) where
   one-length : (s : ℕ) (card : List ℕ) → length (sectorErased m t w s card) ≡ length card
   unfolding sectorErased
   one-length s card =
-      cases (filled m t w s) (λ f. simp f (written-length card erasedSector s blank-length)) (λ f. simp f)
+      cases (filled m t w s) (λ f. simp f (written-length card erasedSector s)) (λ f. simp f)
 
   -- a byte outside the sector, or of a sector that is not filled
   one-kept : (s p : ℕ) (card : List ℕ) → (p / 512 ≡ s → filled m t w s ≡ false) → getD (sectorErased m t w s card) p 0 ≡ getD card p 0
   unfolding sectorErased
   one-kept s p card h =
       cases (filled m t w s)
-      (λ f. simp f (written-elsewhere card erasedSector s blank-length p (λ e. opposite (filled m t w s) f (h e))))
+      (λ f. simp f (written-elsewhere card erasedSector s p (λ e. opposite (filled m t w s) f (h e))))
       (λ f. simp f)
 
   one-filled : (s p : ℕ) (card : List ℕ) → p / 512 ≡ s → s < length card / 512 → filled m t w s ≡ true → getD (sectorErased m t w s card) p 0 ≡ 0xFF
   unfolding sectorErased
-  one-filled s p card e h f = simp f (written-here card erasedSector s blank-length p e h ∙ blank-byte (p % 512) (omega arith))
+  one-filled s p card e h f = simp f (written-here card erasedSector s (omega (arith, blank-length)) p e h ∙ blank-byte (p % 512) (omega arith))
 
   to-length : (n : ℕ) (card : List ℕ) → length (erasedTo m t w n card) ≡ length card
   unfolding erasedTo

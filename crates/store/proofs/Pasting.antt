@@ -1,7 +1,7 @@
 -- Bytes written over others.
 --   part-turn   a part copied behind the part before it makes one longer part
 --   part-all    a part as long as the output is all of it
---   over-part   as many bytes copied over a part as it has are written over the whole from the part's place on
+--   over-part   the first bytes copied over a part, as many as it has, are written over the whole from the part's place on
 -- and what stands at each place after n bytes of s were written over d from a place on:
 --   under, over, past   before that place, in the n bytes, and behind them
 -- Assumes nothing.
@@ -40,18 +40,20 @@ part-all m o b at d e eb =
     ∙ ap (λ (x : List ℕ). take (length o) (drop at m) ++ x) (drop-length o)
     ∙ append-nil (take (length o) (drop at m))
 
--- m is the memory, s the bytes, and l what the copy leaves of the part, whose length the code reckons as k
-pub over-part : (m s l : List ℕ) (at n k : ℕ) → length s ≡ n → k ≡ n → at + n ≤ length m → l ≡ copied s (take k (drop at m)) 0
+-- m is the memory, s the bytes, and l what the copy of the first n leaves of the part, whose length the code reckons as k
+pub over-part : (m s l : List ℕ) (at n k : ℕ) → n ≤ length s → k ≡ n → at + n ≤ length m → l ≡ copied (take n s) (take k (drop at m)) 0
     → take at m ++ (l ++ drop k (drop at m)) ≡ paste m at s n
 over-part m s l at n k long ek h e =
     let p : List ℕ = take n (drop at m) in
     let lp : length p ≡ n = length-take-le n (drop at m) (omega (arith, length-drop at m)) in
+    let ls : length (take n s) ≡ n = length-take-le n s long in
     let done : l ≡ take n s =
     e
-    ∙ ap (λ (i : ℕ). copied s (take i (drop at m)) 0) ek
-    ∙ copied-front s p
-    ∙ ap₂ (λ (i : ℕ) (x : List ℕ). take i s ++ x) lp (drop-of-length-le p {i = length s} (omega arith))
-    ∙ append-nil (take n s)
+    ∙ ap (λ (i : ℕ). copied (take n s) (take i (drop at m)) 0) ek
+    ∙ copied-front (take n s) p
+    ∙ ap₂ (λ (i : ℕ) (x : List ℕ). take i (take n s) ++ x) lp (drop-of-length-le p {i = length (take n s)} (omega arith))
+    ∙ append-nil (take n (take n s))
+    ∙ take-take n n s (omega arith)
     in
     ap₂ (λ (x : List ℕ) (i : ℕ). take at m ++ (x ++ drop i (drop at m))) done ek
     ∙ sym (append-assoc (take at m) (take n s) (drop n (drop at m)))

@@ -3,7 +3,10 @@
 --   size-below, size-above     a size just below the smallest allowed, one just above the largest
 --   size-between               a size that is no multiple of 8,192
 --   entry-two, map-longer      a map with an entry of 2, one with an entry too many
---   memory-short, lent-entry   a lent memory a byte short, a lent map with an entry of 2
+--   memory-short               a lent memory a byte short, taken for the card's
+--   lent-longer, lent-entry    a lent map with an entry too many, one with an entry of 2, taken for the card's
+--   lent-as-map                a wrong lent map told by the number that a map has when a card is made
+--   short-written              a sector written with fewer bytes than it has
 --   part-past-end, part-cut    a part that ends past the memory, and the bytes of it that are there
 --   group-past-map             a sector whose group the map does not have, taken for free
 --   next-group, own-group      the last sector of a free group taken for one of the protected group behind it, and the other way round
@@ -15,13 +18,16 @@
 -- Assumes nothing.
 use mathlib.Core.Path.{_≡_, ap}
 use mathlib.Core.Bool.{true, false}
-use mathlib.Core.List.{List, [], _∷_}
+use mathlib.Core.List.{List, [], _∷_, _++_}
 use Prim.Native.Nat.{ℕ}
 use native.Mathlib.Omega.{arith}
-use lib.ListN.{getD}
+use lib.ListN.{getD, replicate}
 use Rattle.base.proofs.Cases.{clash}
-use Rattle.store.specs.Map.{entriesRight, mapRight, lentRight, protectedIn, groupSet, bitsFrom, protectionBits, mapCleared}
-use Rattle.store.specs.Memory.{sizeAllowed, inside, partRead, allErased}
+use Rattle.base.specs.Refusals.{by}
+use Rattle.store.specs.Lent.{seenOf, lendingOf}
+use Rattle.store.specs.Map.{entriesRight, mapRight, protectedIn, groupSet, bitsFrom, protectionBits, mapCleared}
+use Rattle.store.specs.Memory.{sizeAllowed, sectorWritten, inside, partRead, allErased}
+use Rattle.store.specs.declared.Lending.the-variants.{Right, Refused}
 
 size-below : sizeAllowed 8191 ≡ true → ⊥
 size-below e = clash cc
@@ -40,13 +46,25 @@ map-longer : mapRight (0 ∷ 0 ∷ []) 1 ≡ true → ⊥
 unfolding entriesRight
 map-longer e = clash cc
 
-memory-short : lentRight 8191 (0 ∷ []) 1 ≡ true → ⊥
+memory-short : lendingOf (seenOf 8191 (0 ∷ [])) 1 ≡ Right → ⊥
 unfolding entriesRight
 memory-short e = clash cc
 
-lent-entry : lentRight 8192 (2 ∷ []) 1 ≡ true → ⊥
+lent-longer : lendingOf (seenOf 8192 (0 ∷ 0 ∷ [])) 1 ≡ Right → ⊥
+unfolding entriesRight
+lent-longer e = clash cc
+
+lent-entry : lendingOf (seenOf 8192 (2 ∷ [])) 1 ≡ Right → ⊥
 unfolding entriesRight
 lent-entry e = clash cc
+
+lent-as-map : lendingOf (seenOf 8192 (2 ∷ [])) 1 ≡ Refused (by 8) → ⊥
+unfolding entriesRight
+lent-as-map e = clash cc
+
+short-written : sectorWritten (replicate 512 1) 0 (replicate 511 2) ≡ replicate 511 2 ++ 1 ∷ [] → ⊥
+unfolding sectorWritten
+short-written e = let z : _≡_ {A = ℕ} 1 2 = ap (λ (l : List ℕ). getD l 0 0) e in omega arith
 
 part-past-end : inside (1 ∷ 2 ∷ 3 ∷ []) 2 2 ≡ true → ⊥
 part-past-end e = clash cc

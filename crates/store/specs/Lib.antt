@@ -1,3 +1,4 @@
 pub mod Erase
+pub mod Lent
 pub mod Map
 pub mod Memory

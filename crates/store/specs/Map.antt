@@ -6,7 +6,6 @@ use Prim.Native.Nat.{ℕ, zero, suc, _+_, _*_, _/_}
 use lib.Dec.{eqb, leb}
 use lib.ListN.{length, getD, replicate, set}
 use Rattle.base.specs.Choice.{pick}
-use Rattle.base.specs.Sizes.{protectionGroupSize}
 
 -- each of the first n entries is 0 or 1
 unfoldable pub entriesRight : List ℕ → ℕ → Bool
@@ -16,10 +15,6 @@ entriesRight map (suc n) = leb (getD map n 0) 1 && entriesRight map n
 -- 8: "map length or a map entry wrong"
 abbrev pub mapRight : List ℕ → ℕ → Bool
 mapRight map groups = eqb (length map) groups && entriesRight map (length map)
-
--- 12: "lent memory or map differs in length from the card's, or a map entry is not 0 or 1"
-abbrev pub lentRight : ℕ → List ℕ → ℕ → Bool
-lentRight memory map groups = eqb memory (groups * protectionGroupSize) && mapRight map groups
 
 -- the protection group of a sector: 16 sectors are one
 abbrev pub groupOf : ℕ → ℕ

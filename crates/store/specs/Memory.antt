@@ -24,9 +24,11 @@ holds card sector = ltb sector (length card / sectorSize)
 abbrev pub sectorOf : List ℕ → ℕ → List ℕ
 sectorOf card sector = take sectorSize (drop (sector * sectorSize) card)
 
--- a sector with as many bytes written over it; what is no sector of the contents is left alone
+-- a sector with the first of these bytes, as many as it has, written over it; fewer bytes, and what is no sector of the contents, leave
+-- everything alone
 unfoldable pub sectorWritten : List ℕ → ℕ → List ℕ → List ℕ
-sectorWritten card sector bytes = pick (holds card sector) (paste card (sector * sectorSize) bytes sectorSize) card
+sectorWritten card sector bytes =
+    pick (leb sectorSize (length bytes) && holds card sector) (paste card (sector * sectorSize) bytes sectorSize) card
 
 -- whether n bytes from a place on lie in the contents, and these bytes
 abbrev pub inside : List ℕ → ℕ → ℕ → Bool

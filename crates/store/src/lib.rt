@@ -2,8 +2,9 @@
 // to them goes through these calls. Sectors and protection groups go by their numbers; what does
 // not lie in the lent bytes is left alone, so no call has a `requires`.
 //
-// Offers: `PROTECTION_GROUP`; `size_allowed`, `map_right`, `lent_right`; `read_part`,
+// Offers: `PROTECTION_GROUP`; `size_allowed`, `map_right`; `Lending`, `lent_check`; `read_part`,
 // `write_sector`, `erase`, `fill_all`; `protected`, `protect`, `protection_bits`, `clear_map`.
+use base::Refusal;
 use base::copy;
 use base::fill;
 use base::least;
@@ -17,7 +18,8 @@ ghost use lib.ListN.{length};
 ghost use Rattle.base.specs.Choice.{pick};
 ghost use Rattle.base.specs.Sizes.{sectorSize};
 ghost use Rattle.store.specs.Erase.{erasedSector, Spans, spared, sectorErased, erased, anySpared};
-ghost use Rattle.store.specs.Map.{entriesRight, mapRight, lentRight, protectedIn, groupSet, bitOf, protectionBits, mapCleared};
+ghost use Rattle.store.specs.Lent.{seenOf, lendingOf};
+ghost use Rattle.store.specs.Map.{entriesRight, mapRight, protectedIn, groupSet, bitOf, protectionBits, mapCleared};
 ghost use Rattle.store.specs.Memory.{contents, sizeAllowed, inside, sectorWritten, partRead, allErased};
 
 // The sizes of document 01, as memory is counted.
@@ -64,17 +66,26 @@ pub fn map_right(map: &[u8], groups: usize) -> bool
     entries_right(map)
 }
 
-// Whether a memory of this size and a map are those of a card of so many groups.
-pub fn lent_right(memory: usize, map: &[u8], groups: usize) -> bool
-    ensures answer { λ r. ⌜ r ≡ lentRight memory (now (map .entry)) groups ⌝ }
+// What is lent is the card's, or is not.
+pub enum Lending {
+    Right,
+    Refused(Refusal),
+}
+
+// Whether a memory of this size and a map are those of a card of so many groups: 12.
+pub fn lent_check(memory: usize, map: &[u8], groups: usize) -> Lending
+    ensures answer { λ r. ⌜ r ≡ lendingOf (seenOf memory (now (map .entry))) groups ⌝ }
 {
     if memory % PROTECTION_GROUP != 0 {
-        return false;
+        return Lending::Refused(Refusal::Lent);
     }
     if memory / PROTECTION_GROUP != groups {
-        return false;
+        return Lending::Refused(Refusal::Lent);
     }
-    map_right(map, groups)
+    if !map_right(map, groups) {
+        return Lending::Refused(Refusal::Lent);
+    }
+    Lending::Right
 }
 
 // Whether a sector is protected: the whole card is, or the map says so of the sector's group.
@@ -146,16 +157,19 @@ pub fn clear_map(map: &mut [u8])
     fill(map, 0);
 }
 
-// A sector written, where the memory has it.
-pub fn write_sector(memory: &mut [u8], sector: u32, bytes: &[u8; 512])
+// A sector written with the first of these bytes, where there are enough and the memory has it.
+pub fn write_sector(memory: &mut [u8], sector: u32, bytes: &[u8])
     ensures memory { λ _. ⌜ contents (now (memory .exit)) ≡ sectorWritten (contents (now (memory .entry))) sector (now (bytes .entry)) ⌝ }
 {
+    if bytes.len() < SECTOR {
+        return;
+    }
     let number = sector as usize;
     if number < memory.len() / SECTOR {
         let from = number * SECTOR;
         let end = from + SECTOR;
         // Lent the sector alone, the copy is of a length that the compiler knows.
-        copy(bytes, &mut memory[from..end], 0);
+        copy(&bytes[0..SECTOR], &mut memory[from..end], 0);
     }
 }
 

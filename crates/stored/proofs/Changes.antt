@@ -1,6 +1,8 @@
 -- Why memory and map change.
 --   memory-changes    a byte that differs after a step: a granted write to its sector, CMD38 with its sector tagged and free, or a forced erase
 --   map-changes       an entry that differs after a step: CMD28 or CMD29 at its group, or a forced erase
+--   unfilled-byte     a byte that an erase does not fill is as it was
+--   forces-all        a lock request that is answered by an erase of everything is a forced erase
 -- Assumes nothing.
 use mathlib.Core.Path.{_≡_, refl, ap, _∙_}
 use mathlib.Core.Bool.{Bool, true, false, not}
@@ -14,29 +16,28 @@ use lib.Seq.{getD-set-other}
 use Rattle.base.specs.Choice.{pick}
 use Rattle.base.proofs.Cases.{cases, first, last}
 use Rattle.card.proofs.Outcomes.{WritesAt, one, many, askedOf, InOutcome, unreads, refuses, stores, grants, forces, block-outcome}
-use Rattle.card.specs.BlockIn.{blockRefused, blockGood, blockJudged, keptOf, storedBy, clearedBy}
-use Rattle.card.specs.Frame.{frameJudged, erasedBy, protectedBy}
-use Rattle.card.specs.Step.{memoryOf, mapOf}
+use Rattle.card.specs.BlockIn.{blockRefused, blockGood, blockJudged, storedBy}
+use Rattle.card.specs.Frame.{frameJudged, changedBy}
 use Rattle.card.specs.declared.BlockJudged.{BlockJudged}
 use Rattle.card.specs.declared.Call.{Call}
 use Rattle.card.specs.declared.Call.the-variants.{Frame, BlockIn, BlockOut, WorkDone, PowerOn}
 use Rattle.card.specs.declared.Storing.the-variants.{All}
 use Rattle.command.specs.declared.Change.{Change}
 use Rattle.lock.specs.declared.Answer.the-variants.{Erased}
-use Rattle.made.proofs.Run.{kept-length}
 use Rattle.card_record.specs.Record.{csdProtects}
 use Rattle.card_record.specs.declared.Card.{Card}
 use Rattle.states.specs.declared.Incoming.{Incoming}
 use Rattle.states.specs.declared.Incoming.the-variants.{LockRequest}
 use Rattle.states.specs.declared.State.the-variants.{Rcv}
 use Rattle.store.specs.Erase.{sectorsIn, filled, erased}
+use Rattle.store.specs.Lent.{Lent, Seen, seen}
 use Rattle.store.specs.Map.{protectedIn, groupSet}
 use Rattle.store.proofs.Erased.{erased-byte, erased-past}
 use Rattle.store.proofs.Sectors.{written-elsewhere}
 use Rattle.tags.specs.Tags.{taggedOf}
 use Rattle.tags.specs.declared.Tags.{Tags}
 use Rattle.wire.specs.Blocks.{payloadOf}
-use Rattle.stored.specs.Changes.{AwaitsWrite, ForcedErase, Cause, written, erased as by-tag, forced, MapCause, set}
+use Rattle.stored.specs.Changes.{AwaitsWrite, ByteChanges, EntryChanges, ForcedErase, Cause, written, erased as by-tag, forced, MapCause, set}
 use Rattle.stored.proofs.Requests.{asks-erase}
 use Rattle.stored.proofs.Commands.{FrameChange, nothing, protects, frees, erases, frame-change}
 
@@ -54,30 +55,30 @@ awaits card (one at) e = inl e
 awaits card (many at) e = inr e
 
 -- a forced erase, from a lock request that is answered so
-pub forces-all : (card : Card) (input : List ℕ) (memory : ℕ) (map : List ℕ) → card .link .state ≡ Rcv LockRequest
-    → askedOf card input .answer ≡ Erased → blockJudged card input memory map .storing ≡ All → ForcedErase card BlockIn input memory map
-forces-all card input memory map on asked granted =
+pub forces-all : (card : Card) (input : List ℕ) (seen : Seen) → card .link .state ≡ Rcv LockRequest
+    → askedOf card input .answer ≡ Erased → blockJudged card input seen .storing ≡ All → ForcedErase card BlockIn input seen
+forces-all card input seen on asked granted =
     let byte = asks-erase (card .lock) (payloadOf input) (csdProtects (card .registers .csd)) asked in
     record { called = refl; awaited = on; forced = byte .0; granted = granted }
 
 -- ---- memory
-module _ (card : Card) (input memory map : List ℕ) (p : ℕ) where
-  abbrev Differs : List ℕ → Type 0
-  Differs after = getD after p 0 ≡ getD memory p 0 → ⊥
+module _ (card : Card) (input : List ℕ) (lent : Lent) (p : ℕ) where
+  abbrev Differs : Lent → Type 0
+  Differs after = getD (after .memory) p 0 ≡ getD (lent .memory) p 0 → ⊥
 
-  frame-byte : (wins : Bool) {change : Change} → FrameChange card wins input (length memory) map change
-      → frameJudged card wins input (length memory) map .change ≡ change
-      → Differs (erasedBy card memory map change) → Cause card (Frame wins) input (length memory) map (p / 512)
+  frame-byte : (wins : Bool) {change : Change} → FrameChange card wins input (seen lent) change
+      → frameJudged card wins input (seen lent) .change ≡ change
+      → Differs (changedBy card change lent) → Cause card (Frame wins) input (seen lent) (p / 512)
   frame-byte wins nothing e d = absurd (d refl)
   frame-byte wins (protects argument c l) e d = absurd (d refl)
   frame-byte wins (frees argument c l) e d = absurd (d refl)
   frame-byte wins (erases argument c l) e d =
       let tags : Tags = card .link .tags in
       let whole : Bool = csdProtects (card .registers .csd) in
-      cases (filled map tags whole (p / 512))
+      cases (filled (lent .map) tags whole (p / 512))
       (λ f.
       let tagged : Bool = taggedOf tags (p / 512) in
-      let guarded : Bool = protectedIn map whole (p / 512) in
+      let guarded : Bool = protectedIn (lent .map) whole (p / 512) in
       by-tag (record {
         wins = wins;
         called = refl;
@@ -87,10 +88,10 @@ module _ (card : Card) (input memory map : List ℕ) (p : ℕ) where
         tagged = first tagged (not guarded) f;
         unprotected = not-true guarded (last tagged (not guarded) f);
       }))
-      (λ f. absurd (d (unfilled-byte map tags whole memory p f)))
+      (λ f. absurd (d (unfilled-byte (lent .map) tags whole (lent .memory) p f)))
 
-  block-byte : {judged : BlockJudged} → InOutcome card input (length memory) map judged → blockJudged card input (length memory) map ≡ judged
-      → Differs (storedBy (keptOf input) memory (judged .storing)) → Cause card BlockIn input (length memory) map (p / 512)
+  block-byte : {judged : BlockJudged} → InOutcome card input (seen lent) judged → blockJudged card input (seen lent) ≡ judged
+      → Differs (storedBy input (judged .storing) lent) → Cause card BlockIn input (seen lent) (p / 512)
   unfolding blockRefused blockGood
   block-byte (unreads n listed) e d = absurd (d refl)
   block-byte (refuses incoming refusal fault s why) e d = absurd (d refl)
@@ -99,30 +100,30 @@ module _ (card : Card) (input memory map : List ℕ) (p : ℕ) where
       (λ t.
       written at (record { called = refl; awaited = awaits card w s; granted = λ room. ap (λ (j : BlockJudged). j .stepped .reply .outcome) e })
       (eqb-true (p / 512) (at / 512) t))
-      (λ t. absurd (d (written-elsewhere memory (keptOf input) (at / 512) (kept-length input) p (eqb-false (p / 512) (at / 512) t))))
+      (λ t. absurd (d (written-elsewhere (lent .memory) input (at / 512) p (eqb-false (p / 512) (at / 512) t))))
   block-byte (grants s a) e d = absurd (d refl)
-  block-byte (forces s a) e d = forced (forces-all card input (length memory) map s a (ap (λ (j : BlockJudged). j .storing) e))
+  block-byte (forces s a) e d = forced (forces-all card input (seen lent) s a (ap (λ (j : BlockJudged). j .storing) e))
 
-pub memory-changes : (card : Card) (call : Call) (input memory map : List ℕ) (p : ℕ)
-    → (getD (memoryOf card call input memory map) p 0 ≡ getD memory p 0 → ⊥) → Cause card call input (length memory) map (p / 512)
-memory-changes card (Frame wins) input memory map p d = frame-byte card input memory map p wins (frame-change card wins input (length memory) map) refl d
-memory-changes card BlockIn input memory map p d = block-byte card input memory map p (block-outcome card input (length memory) map) refl d
-memory-changes card BlockOut input memory map p d = absurd (d refl)
-memory-changes card WorkDone input memory map p d = absurd (d refl)
-memory-changes card PowerOn input memory map p d = absurd (d refl)
+pub memory-changes : (card : Card) (call : Call) (input : List ℕ) (lent : Lent) (p : ℕ)
+    → ByteChanges card call input lent p → Cause card call input (seen lent) (p / 512)
+memory-changes card (Frame wins) input lent p d = frame-byte card input lent p wins (frame-change card wins input (seen lent)) refl d
+memory-changes card BlockIn input lent p d = block-byte card input lent p (block-outcome card input (seen lent)) refl d
+memory-changes card BlockOut input lent p d = absurd (d refl)
+memory-changes card WorkDone input lent p d = absurd (d refl)
+memory-changes card PowerOn input lent p d = absurd (d refl)
 
 -- ---- the map
-module _ (card : Card) (input : List ℕ) (memory : ℕ) (map : List ℕ) (group : ℕ) where
+module _ (card : Card) (input : List ℕ) (lent : Lent) (group : ℕ) where
   abbrev MapDiffers : List ℕ → Type 0
-  MapDiffers after = getD after group 0 ≡ getD map group 0 → ⊥
+  MapDiffers after = getD after group 0 ≡ getD (lent .map) group 0 → ⊥
 
-  addressed : (at : ℕ) (on : Bool) → MapDiffers (groupSet map at on) → group ≡ at
+  addressed : (at : ℕ) (on : Bool) → MapDiffers (groupSet (lent .map) at on) → group ≡ at
   addressed at on d =
       cases (eqb group at) (λ t. eqb-true group at t)
-      (λ t. absurd (d (getD-set-other map at group (pick on 1 0) 0 (eqb-false group at t))))
+      (λ t. absurd (d (getD-set-other (lent .map) at group (pick on 1 0) 0 (eqb-false group at t))))
 
-  frame-entry : (wins : Bool) {change : Change} → FrameChange card wins input memory map change → frameJudged card wins input memory map .change ≡ change
-      → MapDiffers (protectedBy map change) → MapCause card (Frame wins) input memory map group
+  frame-entry : (wins : Bool) {change : Change} → FrameChange card wins input (seen lent) change → frameJudged card wins input (seen lent) .change ≡ change
+      → MapDiffers (changedBy card change lent .map) → MapCause card (Frame wins) input (seen lent) group
   frame-entry wins nothing e d = absurd (d refl)
   frame-entry wins (protects argument c l) e d =
       let g = addressed (argument / 8192) true d in
@@ -132,19 +133,19 @@ module _ (card : Card) (input : List ℕ) (memory : ℕ) (map : List ℕ) (group
       set (record { wins = wins; called = refl; argument = argument; addressed = g; taken = inr (c, rw g e) })
   frame-entry wins (erases argument c l) e d = absurd (d refl)
 
-  block-entry : {judged : BlockJudged} → InOutcome card input memory map judged → blockJudged card input memory map ≡ judged
-      → MapDiffers (clearedBy map (judged .storing)) → MapCause card BlockIn input memory map group
+  block-entry : {judged : BlockJudged} → InOutcome card input (seen lent) judged → blockJudged card input (seen lent) ≡ judged
+      → MapDiffers (storedBy input (judged .storing) lent .map) → MapCause card BlockIn input (seen lent) group
   unfolding blockRefused blockGood
   block-entry (unreads n listed) e d = absurd (d refl)
   block-entry (refuses incoming refusal fault s why) e d = absurd (d refl)
   block-entry (stores incoming at w s right) e d = absurd (d refl)
   block-entry (grants s a) e d = absurd (d refl)
-  block-entry (forces s a) e d = forced (forces-all card input memory map s a (ap (λ (j : BlockJudged). j .storing) e))
+  block-entry (forces s a) e d = forced (forces-all card input (seen lent) s a (ap (λ (j : BlockJudged). j .storing) e))
 
-pub map-changes : (card : Card) (call : Call) (input : List ℕ) (memory : ℕ) (map : List ℕ) (group : ℕ)
-    → (getD (mapOf card call input memory map) group 0 ≡ getD map group 0 → ⊥) → MapCause card call input memory map group
-map-changes card (Frame wins) input memory map group d = frame-entry card input memory map group wins (frame-change card wins input memory map) refl d
-map-changes card BlockIn input memory map group d = block-entry card input memory map group (block-outcome card input memory map) refl d
-map-changes card BlockOut input memory map group d = absurd (d refl)
-map-changes card WorkDone input memory map group d = absurd (d refl)
-map-changes card PowerOn input memory map group d = absurd (d refl)
+pub map-changes : (card : Card) (call : Call) (input : List ℕ) (lent : Lent) (group : ℕ)
+    → EntryChanges card call input lent group → MapCause card call input (seen lent) group
+map-changes card (Frame wins) input lent group d = frame-entry card input lent group wins (frame-change card wins input (seen lent)) refl d
+map-changes card BlockIn input lent group d = block-entry card input lent group (block-outcome card input (seen lent)) refl d
+map-changes card BlockOut input lent group d = absurd (d refl)
+map-changes card WorkDone input lent group d = absurd (d refl)
+map-changes card PowerOn input lent group d = absurd (d refl)

@@ -11,17 +11,17 @@ use lib.Dec.{eqb}
 use Rattle.base.proofs.Cases.{picked, never}
 use Rattle.base.specs.Choice.{pick}
 use Rattle.card.proofs.Outcomes.{FrameOutcome, unheard, damaged, commands, frame-outcome}
-use Rattle.card.specs.Frame.{frameJudged}
-use Rattle.card.specs.declared.FrameJudged.{FrameJudged}
+use Rattle.card.specs.Frame.{FrameJudged, frameJudged}
 use Rattle.command.specs.Command.{metBy}
 use Rattle.command.specs.Obey.{passesLock, changeOf}
 use Rattle.command.specs.declared.Change.{Change}
 use Rattle.command.specs.declared.Change.the-variants.{Nothing, Protect, Erase}
-use Rattle.command.specs.declared.Commanded.{Commanded}
 use Rattle.made.proofs.Faults.{unlocked}
 use Rattle.made.proofs.Took.{Took, stopped, reset, obeyed, took}
 use Rattle.moves.specs.Classes.{classOf}
 use Rattle.card_record.specs.declared.Card.{Card}
+use Rattle.card_record.specs.declared.Link.{Link}
+use Rattle.store.specs.Lent.{Seen}
 use Rattle.wire.specs.Frames.{frameOf}
 use Rattle.wire.specs.declared.Frame.the-variants.{Command}
 
@@ -44,7 +44,7 @@ module _ (index argument : ℕ) where
       picked Changes _ (λ t. on (is 28 t))
       (λ t. picked Changes _ (λ u. off (is 29 u)) (λ u. picked Changes _ (λ v. all (is 38 v)) (λ v. none)))
 
-module _ (card : Card) (wins : Bool) (frame : List ℕ) (memory : ℕ) (map : List ℕ) where
+module _ (card : Card) (wins : Bool) (frame : List ℕ) (seen : Seen) where
   pub data FrameChange : Change → Type 0 where
     nothing : FrameChange Nothing
     protects : (argument : ℕ) → frameOf frame ≡ Command 28 argument → card .lock .locked ≡ false → FrameChange (Protect (argument / 8192) true)
@@ -59,16 +59,16 @@ module _ (card : Card) (wins : Bool) (frame : List ℕ) (memory : ℕ) (map : Li
   by-index index argument e p (off i) = frees argument (rw i at e) (unlocked (card .lock .locked) 29 refl (rw i at p))
   by-index index argument e p (all i) = erases argument (rw i at e) (unlocked (card .lock .locked) 38 refl (rw i at p))
 
-  by-command : (index argument : ℕ) {given : Commanded} → frameOf frame ≡ Command index argument
-      → Took (card .link) (metBy card wins) index argument given → FrameChange (given .change)
-  by-command index argument e (stopped tags errors sent) = nothing
-  by-command index argument e (reset i) = nothing
-  by-command index argument e (obeyed next sent p) = by-index index argument e p (changes index argument)
+  by-command : (index argument : ℕ) {next : Link} {change : Change} → frameOf frame ≡ Command index argument
+      → Took (card .link) (metBy card wins) index argument next change → FrameChange change
+  by-command index argument e (stopped tags errors) = nothing
+  by-command index argument e (reset errors i) = nothing
+  by-command index argument e (obeyed next p) = by-index index argument e p (changes index argument)
 
-  by-frame : {judged : FrameJudged} → FrameOutcome card wins frame memory map judged → FrameChange (judged .change)
+  by-frame : {judged : FrameJudged} → FrameOutcome card wins frame seen judged → FrameChange (judged .change)
   by-frame (unheard n listed) = nothing
   by-frame damaged = nothing
   by-frame (commands index argument e l) = by-command index argument e (took (card .link) (metBy card wins) index argument)
 
-  pub frame-change : FrameChange (frameJudged card wins frame memory map .change)
-  frame-change = by-frame (frame-outcome card wins frame memory map)
+  pub frame-change : FrameChange (frameJudged card wins frame seen .change)
+  frame-change = by-frame (frame-outcome card wins frame seen)

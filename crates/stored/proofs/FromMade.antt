@@ -2,7 +2,7 @@
 --   made-locked              a made card that is locked awaits no write
 --   made-awaiting            one that awaits a write is unlocked, and awaits it at an aligned address of 32 bits
 --   made-read-back, made-read-back-many    a block that a made card stored for CMD24, or for CMD25, is read back
---   made-locked-keeps        memory and map of a made locked card change only by a granted forced erase
+--   made-locked-keeps        what is lent to a made locked card changes only by a granted forced erase
 --   made-unlocks-only        it is unlocked only by a granted forced erase or by an unlock with exactly the stored password: it has one, so
 --                            never by power-on
 -- Assumes nothing.
@@ -12,9 +12,9 @@ use mathlib.Core.List.{List}
 use mathlib.Core.Logic.{_⊎_, inl, inr}
 use Prim.Native.Nat.{ℕ, _≤_}
 use native.Mathlib.Omega.{arith}
-use lib.ListN.{length, getD}
+use lib.ListN.{length}
 use Rattle.base.proofs.Cases.{opposite}
-use Rattle.card.specs.Step.{stepOf, memoryOf, mapOf}
+use Rattle.card.specs.Step.{stepOf}
 use Rattle.card.specs.declared.Call.{Call}
 use Rattle.card.specs.declared.Outcome.the-variants.{Done}
 use Rattle.lock.proofs.Stored.{stored-length}
@@ -26,7 +26,8 @@ use Rattle.states.specs.declared.Incoming.{Incoming}
 use Rattle.states.specs.declared.Incoming.the-variants.{One, Many}
 use Rattle.states.specs.declared.State.the-variants.{Rcv}
 use Rattle.store.proofs.Sectors.{allowed-size}
-use Rattle.stored.specs.Changes.{AwaitsWrite, ForcedErase}
+use Rattle.store.specs.Lent.{Lent, Seen, seen}
+use Rattle.stored.specs.Changes.{AwaitsWrite, ByteChanges, EntryChanges, ForcedErase}
 use Rattle.stored.specs.Locked.{LockedCard, UnlockGranted}
 use Rattle.stored.specs.ReadBack.{blockIn, storedThenRead, storedStoppedThenRead, Awaiting, ReadsBack}
 use Rattle.stored.proofs.Locked.{locked-keeps, unlocks-by-request}
@@ -52,15 +53,15 @@ module _ (card : Card) (made : Made card) where
     made-locked = record { locked = locked; no-write = λ at awaits. opposite (card .lock .locked) locked (made-awaiting at awaits .unlocked) }
 
     module _ (call : Call) (input : List ℕ) where
-      pub made-locked-keeps : (memory map : List ℕ) (p : ℕ)
-          → ((getD (memoryOf card call input memory map) p 0 ≡ getD memory p 0 → ⊥) → ForcedErase card call input (length memory) map)
-          × ((getD (mapOf card call input (length memory) map) p 0 ≡ getD map p 0 → ⊥) → ForcedErase card call input (length memory) map)
+      pub made-locked-keeps : (lent : Lent) (p : ℕ)
+          → (ByteChanges card call input lent p → ForcedErase card call input (seen lent))
+          × (EntryChanges card call input lent p → ForcedErase card call input (seen lent))
       made-locked-keeps = locked-keeps card made-locked call input
 
-      pub made-unlocks-only : (memory : ℕ) (map : List ℕ) (room : ℕ) → stepOf card call input memory map room .card .lock .locked ≡ false
-          → ForcedErase card call input memory map ⊎ UnlockGranted card call input memory map
-      made-unlocks-only memory map room =
-          unlocks-by-request card call input memory map room locked (omega (arith, made .lock .locked locked, stored-length (card .lock) (made .lock .bytes)))
+      pub made-unlocks-only : (seen : Seen) (room : ℕ) → stepOf card call input seen room .card .lock .locked ≡ false
+          → ForcedErase card call input seen ⊎ UnlockGranted card call input seen
+      made-unlocks-only seen room =
+          unlocks-by-request card call input seen room locked (omega (arith, made .lock .locked locked, stored-length (card .lock) (made .lock .bytes)))
 
 module _ (w : World) (block : List ℕ) (at : ℕ) (made : Made (w .card)) (output : List ℕ) (room : 514 ≤ length output)
     (granted : outcomeOf w (blockIn block) ≡ Done) where

@@ -22,6 +22,7 @@ use Rattle.card_record.specs.Record.{sizeOf}
 use Rattle.states.specs.declared.Incoming.{Incoming}
 use Rattle.states.specs.declared.Incoming.the-variants.{One, Many}
 use Rattle.states.specs.declared.State.the-variants.{Rcv}
+use Rattle.store.specs.Lent.{seen}
 use Rattle.wire.specs.Blocks.{blockOf, payloadOf, crcIn}
 use Rattle.wire.proofs.BlockTheorems.{long, good, check-after-write}
 use Rattle.stored.specs.ReadBack.{blockIn, blockOut, storedThenRead, storedStoppedThenRead, Awaiting, Writable}
@@ -39,7 +40,7 @@ module _ (w : World) (payload : List ℕ) (at : ℕ) (sector : length payload �
   in-memory : at / 512 < sizeOf (w .card .registers .groups) / 512
   in-memory = omega (arith, writable .in-range)
 
-  write-good : {incoming : Incoming} → WritesAt incoming at → awaitedJudged (w .card) incoming (blockOf payload) (w .map) .stepped .reply .outcome ≡ Done
+  write-good : {incoming : Incoming} → WritesAt incoming at → awaitedJudged (w .card) incoming (blockOf payload) (w .lent .map) .stepped .reply .outcome ≡ Done
   unfolding awaitedJudged writeJudged blockGood
   write-good (one at) =
       rw (eq-eqb (length (blockOf payload)) 514 block-long, crc-right, lt-ltb (at / 512) (sizeOf (w .card .registers .groups) / 512) in-memory, writable .free)
@@ -47,9 +48,9 @@ module _ (w : World) (payload : List ℕ) (at : ℕ) (sector : length payload �
       rw (eq-eqb (length (blockOf payload)) 514 block-long, crc-right, lt-ltb (at / 512) (sizeOf (w .card .registers .groups) / 512) in-memory, writable .free)
 
   reaches : (incoming : Incoming) → w .card .link .state ≡ Rcv incoming
-      → blockJudged (w .card) (blockOf payload) (length (w .memory)) (w .map) ≡ awaitedJudged (w .card) incoming (blockOf payload) (w .map)
+      → blockJudged (w .card) (blockOf payload) (seen (w .lent)) ≡ awaitedJudged (w .card) incoming (blockOf payload) (w .lent .map)
   unfolding blockJudged
-  reaches incoming state = rw (writable .lent, state)
+  reaches incoming state = rw (writable .right, state)
 
   pub good-granted : {incoming : Incoming} → WritesAt incoming at → w .card .link .state ≡ Rcv incoming → outcomeOf w (blockIn (blockOf payload)) ≡ Done
   good-granted {incoming} writes state = ap (λ (j : BlockJudged). j .stepped .reply .outcome) (reaches incoming state) ∙ write-good writes

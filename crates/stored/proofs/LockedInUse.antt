@@ -12,9 +12,9 @@ use mathlib.Core.Path.{_≡_, refl, ap, subst}
 use mathlib.Core.Bool.{Bool, true, false}
 use mathlib.Core.List.{List, [], _∷_, _++_, map}
 use Prim.Native.Nat.{ℕ}
-use lib.ListN.{length, replicate}
+use lib.ListN.{replicate}
 use Rattle.base.specs.Refusals.{by}
-use Rattle.card.specs.BlockIn.{blockRefused, blockGood, requestJudged, awaitedJudged, blockJudged, keptOf, storedBy, clearedBy}
+use Rattle.card.specs.BlockIn.{blockRefused, blockGood, requestJudged, awaitedJudged, blockJudged, storedBy}
 use Rattle.card.specs.Frame.{frameJudged, frameStepped}
 use Rattle.card.specs.Replies.{refused, done}
 use Rattle.card.specs.Step.{stepOf}
@@ -24,8 +24,8 @@ use Rattle.card.specs.declared.Outcome.the-variants.{Done, Refused}
 use Rattle.card.specs.declared.Storing.the-variants.{Nothing}
 use Rattle.command.specs.Answers.{responseOf, answered}
 use Rattle.command.specs.Arguments.{argumentFault}
-use Rattle.command.specs.Command.{resetTold, concluded, takenOf, commandOf}
-use Rattle.command.specs.Obey.{taggingOf, judgedOf, awaitedBy, obeyed, changeOf}
+use Rattle.command.specs.Command.{takenOf, commandOf}
+use Rattle.command.specs.Obey.{taggingOf, judgedOf, resetTold, awaitedBy, obeyed, changeOf, afterChecks, actedOf}
 use Rattle.command.specs.declared.Sent.the-variants.{Status}
 use Rattle.crc.specs.Bits.{bits}
 use Rattle.crc.specs.Crc.{divide, remainder, checkSum, crc16}
@@ -34,7 +34,7 @@ use Rattle.lock.specs.Requests.{passwordIn, presented, requestOf}
 use Rattle.made.proofs.Reached.{register}
 use Rattle.made.proofs.Run.{made-stays-made}
 use Rattle.made.specs.Made.{Made}
-use Rattle.made.specs.Run.{World, Input, given, next, outcomeOf, runOf, begun}
+use Rattle.made.specs.Run.{World, Input, given, next, outcomeOf, runOf, madeLent, begun}
 use Rattle.moves.specs.Classes.{classOf}
 use Rattle.moves.specs.Moves.{moveOf}
 use Rattle.moves.specs.Rows.{transferRow, rowOf}
@@ -47,19 +47,20 @@ use Rattle.states.specs.declared.State.the-variants.{Tran, Rcv, Prg}
 use Rattle.status.specs.ErrorBits.{errorBit}
 use Rattle.status.specs.Status.{noErrors, withBit, wordOf}
 use Rattle.status.specs.declared.Errors.{Errors}
+use Rattle.store.specs.Lent.{Lent, lentOf, seen}
 use Rattle.store.specs.Map.{entriesRight}
 use Rattle.tags.specs.Tagging.{noTags}
 use Rattle.wire.specs.Blocks.{blockOf}
 use Rattle.wire.specs.Frames.{crc7Of, sealed, commandFrame, fieldsOf, framingOf}
 use Rattle.wire.specs.Responses.{lastByte, registerRight}
 
-abbrev memory : List ℕ
-memory = replicate 8192 0x33
+abbrev lent : Lent
+lent = lentOf (replicate 8192 0x33) (0 ∷ [])
 
 abbrev made : World
-made = begun register register 0x00FF8000 (0x2A ∷ []) memory (0 ∷ [])
+made = begun register register 0x00FF8000 (0x2A ∷ []) lent
 
-pub locked-made : (madeOf register register 0x00FF8000 (0x2A ∷ []) 8192 (0 ∷ []) .making ≡ MakeDone) × (made .card .lock .locked ≡ true)
+pub locked-made : (madeLent register register 0x00FF8000 (0x2A ∷ []) lent .making ≡ MakeDone) × (made .card .lock .locked ≡ true)
 unfolding madeOf passwordMade lockMadeOf holding poweredOf stored registerRight lastByte crc7Of remainder divide bits entriesRight
 locked-made = (refl, refl)
 
@@ -73,7 +74,7 @@ asking =
 abbrev unlock : ℕ → Input
 unlock byte = given BlockIn (blockOf ((0 ∷ 1 ∷ byte ∷ []) ++ replicate 509 0))
 
--- the card as it then is, in a state, with these error bits, locked or not; its memory and its map are as they were
+-- the card as it then is, in a state, with these error bits, locked or not; what it is lent is as it was
 abbrev card : State → Errors → Bool → World
 card state errors locked =
     record {
@@ -82,30 +83,29 @@ card state errors locked =
         lock = holding (0x2A ∷ []) locked;
         link = record { state = state; address = 1; length = 512; errors = errors; tags = noTags };
       };
-      memory = memory;
-      map = 0 ∷ [];
+      lent = lent;
     }
 
 abbrev awaiting : World
 awaiting = card (Rcv LockRequest) noErrors true
 
 pub asked : runOf made asking ≡ awaiting
-unfolding runOf next madeOf passwordMade lockMadeOf poweredOf stored registerRight lastByte freshLink crc7Of remainder divide bits entriesRight commandFrame sealed framingOf fieldsOf frameStepped frameJudged commandOf rowOf transferRow moveOf classOf takenOf concluded answered responseOf resetTold wordOf judgedOf taggingOf argumentFault obeyed awaitedBy changeOf holding
+unfolding runOf next madeOf passwordMade lockMadeOf poweredOf stored registerRight lastByte freshLink crc7Of remainder divide bits entriesRight commandFrame sealed framingOf fieldsOf frameStepped frameJudged commandOf rowOf transferRow moveOf classOf takenOf actedOf afterChecks answered responseOf resetTold wordOf judgedOf taggingOf argumentFault obeyed awaitedBy changeOf holding
 asked = refl
 
 pub asked-made : Made (awaiting .card)
 asked-made =
     subst (λ (w : World). Made (w .card)) asked
-    (made-stays-made register register 0x00FF8000 (0x2A ∷ []) memory (0 ∷ []) asking (locked-made .0))
+    (made-stays-made register register 0x00FF8000 (0x2A ∷ []) lent asking (locked-made .0))
 
 -- ---- a wrong password, and CMD42 anew, whose R1 clears bit 24
 -- a block in, judged once
 abbrev judged : ℕ → BlockJudged
-judged byte = blockJudged (awaiting .card) (unlock byte .bytes) (length memory) (0 ∷ [])
+judged byte = blockJudged (awaiting .card) (unlock byte .bytes) (seen lent)
 
 -- the world that it leaves
 abbrev left : ℕ → BlockJudged → World
-left byte given = record { card = given .stepped .card; memory = storedBy (keptOf (unlock byte .bytes)) memory (given .storing); map = clearedBy (0 ∷ []) (given .storing) }
+left byte given = record { card = given .stepped .card; lent = storedBy (unlock byte .bytes) (given .storing) lent }
 
 wrong-judged : judged 0x2B ≡ record { stepped = refused (card Tran (withBit noErrors (errorBit 24)) true .card) (by 20); storing = Nothing }
 unfolding entriesRight blockJudged awaitedJudged requestJudged requestOf presented passwordIn stored same holding blockGood blockRefused blockOf crc16 checkSum remainder divide bits
@@ -116,7 +116,7 @@ unfolding next
 wrong-fails = (ap (λ (j : BlockJudged). j .stepped .reply .outcome) wrong-judged, ap (left 0x2B) wrong-judged)
 
 pub asks-again : next (card Tran (withBit noErrors (errorBit 24)) true) (given (Frame true) (commandFrame 42 0)) ≡ awaiting
-unfolding next crc7Of remainder divide bits entriesRight commandFrame sealed framingOf fieldsOf frameStepped frameJudged commandOf rowOf transferRow moveOf classOf takenOf concluded answered responseOf resetTold wordOf judgedOf taggingOf argumentFault obeyed awaitedBy changeOf holding
+unfolding next crc7Of remainder divide bits entriesRight commandFrame sealed framingOf fieldsOf frameStepped frameJudged commandOf rowOf transferRow moveOf classOf takenOf actedOf afterChecks answered responseOf resetTold wordOf judgedOf taggingOf argumentFault obeyed awaitedBy changeOf holding
 asks-again = refl
 
 -- ---- the right one
@@ -129,7 +129,7 @@ unfolding next
 right-unlocks = (ap (λ (j : BlockJudged). j .stepped .reply .outcome) right-judged, ap (left 0x2A) right-judged)
 
 -- ---- a command that is not let through: R1 shows bits 25 and 24, tran and bit 8, and the card stays in tran
-pub read-refused : (stepOf (card Tran noErrors true .card) (Frame true) (commandFrame 17 0) 8192 (0 ∷ []) 0 .reply .sent ≡ Status 17 0x03000900)
+pub read-refused : (stepOf (card Tran noErrors true .card) (Frame true) (commandFrame 17 0) (seen lent) 0 .reply .sent ≡ Status 17 0x03000900)
     × (next (card Tran noErrors true) (given (Frame true) (commandFrame 17 0)) ≡ card Tran noErrors true)
-unfolding next crc7Of remainder divide bits entriesRight commandFrame sealed framingOf fieldsOf frameStepped frameJudged commandOf rowOf transferRow moveOf classOf takenOf concluded answered responseOf resetTold wordOf judgedOf taggingOf argumentFault obeyed awaitedBy changeOf holding
+unfolding next crc7Of remainder divide bits entriesRight commandFrame sealed framingOf fieldsOf frameStepped frameJudged commandOf rowOf transferRow moveOf classOf takenOf actedOf afterChecks answered responseOf resetTold wordOf judgedOf taggingOf argumentFault obeyed awaitedBy changeOf holding
 read-refused = (refl, refl)

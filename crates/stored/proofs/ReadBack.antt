@@ -2,18 +2,17 @@
 --   read-back         a block that CMD24 stored: work done, CMD16 of 512, CMD17 at its address and a block out give the same 512 bytes
 --   read-back-many    the same of a block that CMD25 stored, with CMD12 before work done
 -- Assumes nothing.
-use mathlib.Core.Path.{_≡_, refl, sym, ap, _∙_}
+use mathlib.Core.Path.{_≡_, sym, ap, _∙_}
 use mathlib.Core.Bool.{true, false}
-use mathlib.Core.List.{List, [], _∷_, append-nil}
+use mathlib.Core.List.{List, [], _∷_}
 use Prim.Native.Nat.{ℕ, _+_, _*_, _/_, _%_, _^_, _≤_, _<_}
 use native.Mathlib.Omega.{arith}
-use borrow.Author.Tests.{eqb-true, le-leb, le-ltb}
-use lib.Dec.{eqb}
+use borrow.Author.Tests.{le-leb, le-ltb}
 use lib.ListN.{length, take, drop, length-append, length-drop}
 use lib.Seq.{length-take-le, take-at}
-use Rattle.base.proofs.Cases.{clash, first}
+use Rattle.base.proofs.Cases.{clash}
 use Rattle.card.proofs.Outcomes.{WritesAt, one, many, only, Storable, InOutcome, unreads, refuses, stores, grants, forces, block-outcome}
-use Rattle.card.specs.BlockIn.{afterStored, blockRefused, blockGood, blockJudged, keptOf, storedBy, clearedBy}
+use Rattle.card.specs.BlockIn.{afterStored, blockRefused, blockGood, blockJudged, storedBy}
 use Rattle.card.specs.BlockOut.{partJudged, outGood, outJudged, partSent, sentOut}
 use Rattle.card.specs.declared.BlockJudged.{BlockJudged}
 use Rattle.card.specs.declared.Call.the-variants.{WorkDone}
@@ -25,7 +24,6 @@ use Rattle.card.specs.declared.Storing.the-variants.{Sector}
 use Rattle.command.specs.Command.{metBy, commandOf}
 use Rattle.crc.specs.Crc.{crc16}
 use Rattle.demands.proofs.Frames.{unlent}
-use Rattle.made.proofs.Run.{kept-length}
 use Rattle.made.specs.Run.{World, given, next, outcomeOf, outputAfter}
 use Rattle.card_record.specs.Power.{workedState, worked}
 use Rattle.card_record.specs.Record.{sizeOf}
@@ -35,9 +33,11 @@ use Rattle.states.specs.declared.Incoming.the-variants.{One, Many, LockRequest}
 use Rattle.states.specs.declared.Outgoing.the-variants.{One as OneOut}
 use Rattle.states.specs.declared.State.{State}
 use Rattle.states.specs.declared.State.the-variants.{Tran, Data, Rcv, Prg}
-use Rattle.store.specs.Map.{lentRight, mapRight}
-use Rattle.store.specs.Memory.{sectorWritten, partOf}
+use Rattle.store.proofs.OnceLent.{right-parts}
 use Rattle.store.proofs.Sectors.{written-length, read-back as sector-back}
+use Rattle.store.specs.Lent.{Lent, Seen, seen, lendingOf}
+use Rattle.store.specs.Memory.{partOf}
+use Rattle.store.specs.declared.Lending.the-variants.{Right}
 use Rattle.wire.specs.Blocks.{blockOf}
 use Rattle.wire.specs.Frames.{commandFrame}
 use Rattle.wire.proofs.FrameTheorems.{read-after-write}
@@ -45,16 +45,16 @@ use Rattle.stored.specs.ReadBack.{commanded, blockIn, blockOut, readAgai
 use Rattle.stored.proofs.Runs.{Leaves, leaves-12, leaves-16, leaves-17}
 
 -- ---- the block in
-record Stored (card : Card) (incoming : Incoming) (at : ℕ) (block : List ℕ) (memory : ℕ) (map : List ℕ) (judged : BlockJudged) : Type 0 where
+record Stored (card : Card) (incoming : Incoming) (at : ℕ) (block : List ℕ) (seen : Seen) (judged : BlockJudged) : Type 0 where
   is : judged ≡ blockGood card (afterStored incoming (at / 512 * 512 + 512)) (Sector (at / 512))
-  storable : Storable card block memory map (at / 512)
+  storable : Storable card block seen (at / 512)
 
 no-write : {P : Type 0} {incoming : Incoming} {at : ℕ} → WritesAt incoming at → incoming ≡ LockRequest → P
 no-write (one at) e = clash cc
 no-write (many at) e = clash cc
 
-module _ (card : Card) (block : List ℕ) (memory : ℕ) (map : List ℕ) (incoming : Incoming) (at : ℕ) (w : WritesAt incoming at) (state : card .link .state ≡ Rcv incoming) where
-  stored-as : {judged : BlockJudged} → InOutcome card block memory map judged → judged .stepped .reply .outcome ≡ Done → Stored card incoming at block memory map judged
+module _ (card : Card) (block : List ℕ) (seen : Seen) (incoming : Incoming) (at : ℕ) (w : WritesAt incoming at) (state : card .link .state ≡ Rcv incoming) where
+  stored-as : {judged : BlockJudged} → InOutcome card block seen judged → judged .stepped .reply .outcome ≡ Done → Stored card incoming at block seen judged
   unfolding blockRefused blockGood
   stored-as (unreads n listed) d = clash cc
   stored-as (refuses other refusal fault s why) d = clash cc
@@ -66,17 +66,16 @@ module _ (card : Card) (block : List ℕ) (memory : ℕ) (map : List ℕ) (incom
   stored-as (forces s a) d = no-write w (cc)
 
 -- ---- the run
-module _ (groups : ℕ) (memory map : List ℕ) (lent : lentRight (length memory) map groups ≡ true) where
+module _ (groups : ℕ) (lent : Lent) (right : lendingOf (seen lent) groups ≡ Right) where
   -- an unlocked card in this state, lent the same all the way
   record Holds (state : State) (w : World) : Type 0 where
     groups-are : w .card .registers .groups ≡ groups
     unlocked : w .card .lock .locked ≡ false
     state-is : w .card .link .state ≡ state
-    memory-is : w .memory ≡ memory
-    map-is : w .map ≡ map
+    lent-is : w .lent ≡ lent
 
-  lent-to : (w : World) {state : State} → Holds state w → lentRight (length (w .memory)) (w .map) (w .card .registers .groups) ≡ true
-  lent-to w h = rw (h .memory-is, h .map-is, h .groups-are) lent
+  lent-to : (w : World) {state : State} → Holds state w → lendingOf (seen (w .lent)) (w .card .registers .groups) ≡ Right
+  lent-to w h = rw (h .lent-is, h .groups-are) right
 
   by-frame : (w : World) {from : State} (there : State) (n index argument : ℕ) → Holds from w → index < 64 → argument < 2 ^ 32
       → Leaves there n (commandOf (w .card .link) (metBy (w .card) true) index argument)
@@ -84,15 +83,14 @@ module _ (groups : ℕ) (memory map : List ℕ) (lent : lentRight (length memory
   unfolding next
   by-frame w there n index argument h hi ha l =
       let u =
-      unlent (w .card) true (commandFrame index argument) (w .memory) (w .map) [] index argument
-      (record { lent = lent-to w h; command = read-after-write index argument hi ha }) (l .unchanged)
+      unlent (w .card) true (commandFrame index argument) (w .lent) [] index argument
+      (record { right = lent-to w h; command = read-after-write index argument hi ha }) (l .unchanged)
       in (
         record {
           groups-are = ap (λ (s : Stepped). s .card .registers .groups) (u .step) ∙ h .groups-are;
           unlocked = ap (λ (s : Stepped). s .card .lock .locked) (u .step) ∙ h .unlocked;
           state-is = ap (λ (s : Stepped). s .card .link .state) (u .step) ∙ l .state-is;
-          memory-is = u .memory-kept ∙ h .memory-is;
-          map-is = u .map-kept ∙ h .map-is;
+          lent-is = u .lent-kept ∙ h .lent-is;
         },
         ap (λ (s : Stepped). s .card .link .length) (u .step) ∙ l .length-is,
       )
@@ -104,34 +102,36 @@ module _ (groups : ℕ) (memory map : List ℕ) (lent : lentRight (length memory
         groups-are = h .groups-are;
         unlocked = h .unlocked;
         state-is = ap workedState (h .state-is);
-        memory-is = h .memory-is;
-        map-is = h .map-is;
+        lent-is = h .lent-is;
       }
 
   module _ (at : ℕ) (in-range : at + 512 ≤ sizeOf groups) (aligned : at % 512 ≡ 0) (small : at < 2 ^ 32) (output : List ℕ) (room : 514 ≤ length output) where
     -- what goes out of a card in data
     out-judged : (card : Card) → card .registers .groups ≡ groups → card .link .state ≡ Data (OneOut at) → card .link .length ≡ 512
-        → outJudged card (length memory) map (length output) ≡ outGood card Tran 512 (Part at 512)
+        → outJudged card (seen lent) (length output) ≡ outGood card Tran 512 (Part at 512)
     unfolding outJudged partJudged
     out-judged card g s n =
-        simp (g, lent, s, n, le-leb 514 (length output) room, le-leb (at + 512) (sizeOf groups) in-range, le-ltb 2048 (at % 2048 + 512) (omega arith))
+        simp (g, right, s, n, le-leb 514 (length output) room, le-leb (at + 512) (sizeOf groups) in-range, le-ltb 2048 (at % 2048 + 512) (omega arith))
 
     block-length : (payload : List ℕ) → length payload ≡ 512 → length (blockOf payload) ≡ 514
     unfolding blockOf
     block-length payload e = omega (arith, length-append payload (crc16 payload / 256 ∷ crc16 payload % 256 ∷ []))
 
-    sent-front : at + 512 ≤ length memory → take 514 (partSent memory at 512 output) ≡ blockOf (partOf memory at 512)
+    abbrev part : List ℕ
+    part = partOf (lent .memory) at 512
+
+    sent-front : at + 512 ≤ length (lent .memory) → take 514 (partSent (lent .memory) at 512 output) ≡ blockOf part
     unfolding partSent
     sent-front h =
-        simp (le-leb 514 (length output) room, le-leb (at + 512) (length memory) h)
-        (take-at (blockOf (partOf memory at 512)) (drop 514 output) 514
-        (block-length (partOf memory at 512) (length-take-le 512 (drop at memory) (omega (arith, length-drop at memory)))))
+        simp (le-leb 514 (length output) room, le-leb (at + 512) (length (lent .memory)) h)
+        (take-at (blockOf part) (drop 514 output) 514
+        (block-length part (length-take-le 512 (drop at (lent .memory)) (omega (arith, length-drop at (lent .memory))))))
 
-    whole : at + 512 ≤ length memory
-    whole = omega (arith, eqb-true (length memory) (groups * 8192) (first (eqb (length memory) (groups * 8192)) (mapRight map groups) lent))
+    whole : at + 512 ≤ length (lent .memory)
+    whole = omega (arith, right-parts (seen lent) groups right .0)
 
     again : (w : World) → Holds Prg w
-        → (outcomeOf (readAgain w at) (blockOut output) ≡ Wrote 514) × (take 514 (outputAfter (readAgain w at) (blockOut output)) ≡ blockOf (partOf memory at 512))
+        → (outcomeOf (readAgain w at) (blockOut output) ≡ Wrote 514) × (take 514 (outputAfter (readAgain w at) (blockOut output)) ≡ blockOf part)
     unfolding readAgain outGood
     again w h =
         let w1 : World = next w (given WorkDone []) in
@@ -144,35 +144,32 @@ module _ (groups : ℕ) (memory map : List ℕ) (lent : lentRight (length memory
         by-frame w2 (Data (OneOut at)) 512 17 at (h2 .0) (omega arith) small
         (leaves-17 (w2 .card) (h2 .0 .unlocked) at reach aligned (h2 .0 .state-is) (h2 .1))
         in
-        let sent : outJudged (w3 .card) (length (w3 .memory)) (w3 .map) (length output) ≡ outGood (w3 .card) Tran 512 (Part at 512) =
-        rw (h3 .0 .memory-is, h3 .0 .map-is) (out-judged (w3 .card) (h3 .0 .groups-are) (h3 .0 .state-is) (h3 .1))
+        let sent : outJudged (w3 .card) (seen (w3 .lent)) (length output) ≡ outGood (w3 .card) Tran 512 (Part at 512) =
+        rw (h3 .0 .lent-is) (out-judged (w3 .card) (h3 .0 .groups-are) (h3 .0 .state-is) (h3 .1))
         in (
           ap (λ (j : OutJudged). j .stepped .reply .outcome) sent,
-          ap (λ (j : OutJudged). take 514 (sentOut (w3 .memory) (w3 .map) output (j .sending))) sent
-              ∙ rw (h3 .0 .memory-is) (sent-front whole),
+          ap (λ (j : OutJudged). take 514 (sentOut (w3 .lent) (j .sending) output)) sent
+              ∙ rw (h3 .0 .lent-is) (sent-front whole),
         )
 
 -- ---- the theorems
-kept-is : (block : List ℕ) → length block ≡ 514 → keptOf block ≡ take 512 block
-unfolding keptOf
-kept-is block long = rw long (append-nil (take 512 block))
-
 module _ (w : World) (block : List ℕ) (at : ℕ) (awaiting : Awaiting (w .card) at) (output : List ℕ) (room : 514 ≤ length output) where
-  abbrev after-memory : List ℕ
-  after-memory = sectorWritten (w .memory) (at / 512) (keptOf block)
+  -- what is lent, with the block stored
+  abbrev after : Lent
+  after = storedBy block (Sector (at / 512)) (w .lent)
 
   module _ (incoming : Incoming) (writes : WritesAt incoming at) (state : w .card .link .state ≡ Rcv incoming) (granted : outcomeOf w (blockIn block) ≡ Done) where
-    judged : Stored (w .card) incoming at block (length (w .memory)) (w .map) (blockJudged (w .card) block (length (w .memory)) (w .map))
-    judged = stored-as (w .card) block (length (w .memory)) (w .map) incoming at writes state (block-outcome (w .card) block (length (w .memory)) (w .map)) granted
+    judged : Stored (w .card) incoming at block (seen (w .lent)) (blockJudged (w .card) block (seen (w .lent)))
+    judged = stored-as (w .card) block (seen (w .lent)) incoming at writes state (block-outcome (w .card) block (seen (w .lent))) granted
 
     -- a block that was granted lies in memory
     in-memory : at + 512 ≤ sizeOf (w .card .registers .groups)
     in-memory = omega (arith, judged .storable .in-range, awaiting .aligned)
 
-    still-lent : lentRight (length after-memory) (w .map) (w .card .registers .groups) ≡ true
-    still-lent = rw (written-length (w .memory) (keptOf block) (at / 512) (kept-length block)) (judged .storable .lent)
+    still-lent : lendingOf (seen after) (w .card .registers .groups) ≡ Right
+    still-lent = rw (written-length (w .lent .memory) block (at / 512)) (judged .storable .lent)
 
-    stored-holds : Holds (w .card .registers .groups) after-memory (w .map) still-lent (afterStored incoming (at / 512 * 512 + 512)) (next w (blockIn block))
+    stored-holds : Holds (w .card .registers .groups) after still-lent (afterStored incoming (at / 512 * 512 + 512)) (next w (blockIn block))
     unfolding next blockGood
     stored-holds =
         let e = judged .is in
@@ -180,27 +177,20 @@ module _ (w : World) (block : List ℕ) (at : ℕ) (awaiting : Awaiting (w .card
           groups-are = ap (λ (j : BlockJudged). j .stepped .card .registers .groups) e;
           unlocked = ap (λ (j : BlockJudged). j .stepped .card .lock .locked) e ∙ awaiting .unlocked;
           state-is = ap (λ (j : BlockJudged). j .stepped .card .link .state) e;
-          memory-is = ap (λ (j : BlockJudged). storedBy (keptOf block) (w .memory) (j .storing)) e;
-          map-is = ap (λ (j : BlockJudged). clearedBy (w .map) (j .storing)) e;
+          lent-is = ap (λ (j : BlockJudged). storedBy block (j .storing) (w .lent)) e;
         }
 
     -- the part that goes out is the block's 512 bytes
-    same-bytes : partOf after-memory at 512 ≡ take 512 block
+    same-bytes : partOf (after .memory) at 512 ≡ take 512 block
     same-bytes =
         let place : at / 512 * 512 ≡ at = omega (arith, awaiting .aligned) in
-        let size : length (w .memory) ≡ w .card .registers .groups * 8192 =
-        eqb-true (length (w .memory)) (w .card .registers .groups * 8192)
-        (first (eqb (length (w .memory)) (w .card .registers .groups * 8192)) (mapRight (w .map) (w .card .registers .groups)) (judged .storable .lent))
-        in
-        ap (λ (k : ℕ). partOf after-memory k 512) (sym place)
-        ∙ sector-back (w .memory) (keptOf block) (at / 512) (kept-length block) (omega (arith, in-memory))
-        ∙ kept-is block (judged .storable .long)
+        let size : length (w .lent .memory) ≡ w .card .registers .groups * 8192 = right-parts (seen (w .lent)) (w .card .registers .groups) (judged .storable .lent) .0 in
+        ap (λ (k : ℕ). partOf (after .memory) k 512) (sym place)
+        ∙ sector-back (w .lent .memory) block (at / 512) (omega (arith, judged .storable .long)) (omega (arith, in-memory))
 
-    reads : (v : World) → Holds (w .card .registers .groups) after-memory (w .map) still-lent Prg v → ReadsBack block (readAgain v at) output
+    reads : (v : World) → Holds (w .card .registers .groups) after still-lent Prg v → ReadsBack block (readAgain v at) output
     reads v h =
-        let r =
-        again (w .card .registers .groups) after-memory (w .map) still-lent at in-memory (awaiting .aligned) (awaiting .small) output room v h
-        in
+        let r = again (w .card .registers .groups) after still-lent at in-memory (awaiting .aligned) (awaiting .small) output room v h in
         record { wrote = r .0; front = r .1 ∙ ap blockOf same-bytes }
 
   pub read-back : w .card .link .state ≡ Rcv (One at) → outcomeOf w (blockIn block) ≡ Done → ReadsBack block (storedThenRead w block at) output
@@ -212,7 +202,7 @@ module _ (w : World) (block : List ℕ) (at : ℕ) (awaiting : Awaiting (w .card
       let v : World = next w (blockIn block) in
       let h = stored-holds (Many at) (many at) state granted in
       let stopped =
-      by-frame (w .card .registers .groups) after-memory (w .map) (still-lent (Many at) (many at) state granted) v Prg
+      by-frame (w .card .registers .groups) after (still-lent (Many at) (many at) state granted) v Prg
       (v .card .link .length) 12 0 h (omega arith) (omega arith) (leaves-12 (v .card) (h .unlocked) (Many behind) (h .state-is))
       in
       reads (Many at) (many at) state granted (commanded v 12 0) (stopped .0)

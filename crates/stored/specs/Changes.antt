@@ -9,7 +9,7 @@ use lib.ListN.{getD}
 use Rattle.base.specs.Sizes.{sectorSize, protectionGroupSize}
 use Rattle.card.specs.BlockIn.{blockJudged}
 use Rattle.card.specs.Frame.{frameJudged}
-use Rattle.card.specs.Step.{stepOf}
+use Rattle.card.specs.Step.{stepOf, lentAfter}
 use Rattle.card.specs.declared.Call.{Call}
 use Rattle.card.specs.declared.Call.the-variants.{Frame, BlockIn}
 use Rattle.card.specs.declared.Outcome.the-variants.{Done}
@@ -19,6 +19,7 @@ use Rattle.card_record.specs.Record.{csdProtects}
 use Rattle.card_record.specs.declared.Card.{Card}
 use Rattle.states.specs.declared.Incoming.the-variants.{One, Many, LockRequest}
 use Rattle.states.specs.declared.State.the-variants.{Rcv}
+use Rattle.store.specs.Lent.{Lent, Seen}
 use Rattle.store.specs.Map.{protectedIn}
 use Rattle.tags.specs.Tags.{taggedOf}
 use Rattle.wire.specs.Blocks.{payloadOf}
@@ -30,16 +31,23 @@ abbrev pub AwaitsWrite : Card → ℕ → Type 0
 AwaitsWrite card at = (card .link .state ≡ Rcv (One at)) ⊎ (card .link .state ≡ Rcv (Many at))
 
 -- a protected byte: "CSD bit 13 (permanent) or 12 (temporary) protects the whole card", and "The map has one byte per protection group"
-abbrev pub ProtectedByte : Card → List ℕ → ℕ → Type 0
-ProtectedByte card map p = protectedIn map (csdProtects (card .registers .csd)) (p / sectorSize) ≡ true
+abbrev pub ProtectedByte : Card → Lent → ℕ → Type 0
+ProtectedByte card lent p = protectedIn (lent .map) (csdProtects (card .registers .csd)) (p / sectorSize) ≡ true
 
--- one call at a card: its record, the call, the input, the bytes of the lent memory and the lent map
-module _ (card : Card) (call : Call) (input : List ℕ) (memory : ℕ) (map : List ℕ) where
+-- a byte of the memory, and an entry of the map, that a call changes
+abbrev pub ByteChanges : Card → Call → List ℕ → Lent → ℕ → Type 0
+ByteChanges card call input lent p = getD (lentAfter card call input lent .memory) p 0 ≡ getD (lent .memory) p 0 → ⊥
+
+abbrev pub EntryChanges : Card → Call → List ℕ → Lent → ℕ → Type 0
+EntryChanges card call input lent group = getD (lentAfter card call input lent .map) group 0 ≡ getD (lent .map) group 0 → ⊥
+
+-- one call at a card: its record, the call, the input, and what it sees of what is lent
+module _ (card : Card) (call : Call) (input : List ℕ) (seen : Seen) where
   -- "A good block is stored": the card awaited a write from this address on, and the block in was carried out
   pub record GrantedWrite (at : ℕ) : Type 0 where
     pub called : call ≡ BlockIn
     pub awaited : AwaitsWrite card at
-    pub granted : (room : ℕ) → stepOf card call input memory map room .reply .outcome ≡ Done
+    pub granted : (room : ℕ) → stepOf card call input seen room .reply .outcome ≡ Done
 
   -- "CMD38 .. fills every tagged sector outside protection": CMD38, taken without an error, and the sector is one that it fills
   pub record ErasedByTag (sector : ℕ) : Type 0 where
@@ -47,16 +55,16 @@ module _ (card : Card) (call : Call) (input : List ℕ) (memory : ℕ) (map : Li
     pub called : call ≡ Frame wins
     pub argument : ℕ
     pub command : frameOf input ≡ Command 38 argument
-    pub taken : frameJudged card wins input memory map .change ≡ Erase
+    pub taken : frameJudged card wins input seen .change ≡ Erase
     pub tagged : taggedOf (card .link .tags) sector ≡ true
-    pub unprotected : protectedIn map (csdProtects (card .registers .csd)) sector ≡ false
+    pub unprotected : protectedIn (seen .map) (csdProtects (card .registers .csd)) sector ≡ false
 
   -- "Forced erase .. fills memory, clears the map": a lock request was awaited, its byte 0 was 8, and the block in was granted as one
   pub record ForcedErase : Type 0 where
     pub called : call ≡ BlockIn
     pub awaited : card .link .state ≡ Rcv LockRequest
     pub forced : getD (payloadOf input) 0 0 ≡ 8
-    pub granted : blockJudged card input memory map .storing ≡ All
+    pub granted : blockJudged card input seen .storing ≡ All
 
   -- why a byte of a sector may change
   pub data Cause (sector : ℕ) : Type 0 where
@@ -66,7 +74,7 @@ module _ (card : Card) (call : Call) (input : List ℕ) (memory : ℕ) (map : Li
 
   -- a command, taken without an error, that sets a group or clears it
   abbrev pub SetBy : Bool → ℕ → Bool → ℕ → ℕ → Type 0
-  SetBy wins index on argument group = (frameOf input ≡ Command index argument) × (frameJudged card wins input memory map .change ≡ Protect group on)
+  SetBy wins index on argument group = (frameOf input ≡ Command index argument) × (frameJudged card wins input seen .change ≡ Protect group on)
 
   -- "CMD28, 29: set, clear the addressed group": CMD28 sets and CMD29 clears, at an address in the group
   pub record ProtectionSet (group : ℕ) : Type 0 where

@@ -5,7 +5,7 @@ use mathlib.Core.Bool.{Bool, true}
 use mathlib.Core.List.{List}
 use Prim.Native.Nat.{ℕ, _≤_}
 use lib.ListN.{length, getD}
-use Rattle.card.specs.Step.{stepOf, memoryOf, mapOf}
+use Rattle.card.specs.Step.{stepOf, lentAfter}
 use Rattle.card.specs.declared.Call.{Call}
 use Rattle.card.specs.declared.Call.the-variants.{Frame, BlockIn, PowerOn}
 use Rattle.card.specs.declared.Outcome.the-variants.{Done}
@@ -14,6 +14,7 @@ use Rattle.lock.specs.Requests.{passwordIn}
 use Rattle.card_record.specs.declared.Card.{Card}
 use Rattle.states.specs.declared.Incoming.the-variants.{LockRequest}
 use Rattle.states.specs.declared.State.the-variants.{Rcv}
+use Rattle.store.specs.Lent.{Lent, Seen, seen}
 use Rattle.wire.specs.Blocks.{payloadOf}
 use Rattle.stored.specs.Changes.{AwaitsWrite, ForcedErase}
 
@@ -23,24 +24,23 @@ pub record LockedCard (card : Card) : Type 0 where
   pub no-write : (at : ℕ) → AwaitsWrite card at → ⊥
 
 -- "Clear, lock and unlock need the stored non-empty password": a block in that was granted as an unlock, byte 0 being 0, with exactly that password
-pub record UnlockGranted (card : Card) (call : Call) (input : List ℕ) (memory : ℕ) (map : List ℕ) : Type 0 where
+pub record UnlockGranted (card : Card) (call : Call) (input : List ℕ) (seen : Seen) : Type 0 where
   pub called : call ≡ BlockIn
   pub awaited : card .link .state ≡ Rcv LockRequest
   pub unlock : getD (payloadOf input) 0 0 ≡ 0
   pub some : 1 ≤ length (stored (card .lock))
   pub password : passwordIn (payloadOf input) ≡ stored (card .lock)
-  pub granted : (room : ℕ) → stepOf card call input memory map room .reply .outcome ≡ Done
+  pub granted : (room : ℕ) → stepOf card call input seen room .reply .outcome ≡ Done
 
 -- why a locked card may be unlocked afterwards: "Power-on: .. locked exactly if a password is stored"; "A locked card grants only 0 and 8"
-pub data Unlocking (card : Card) (call : Call) (input : List ℕ) (memory : ℕ) (map : List ℕ) : Type 0 where
-  none-stored : call ≡ PowerOn → length (stored (card .lock)) ≡ 0 → Unlocking card call input memory map
-  forced : ForcedErase card call input memory map → Unlocking card call input memory map
-  unlocked : UnlockGranted card call input memory map → Unlocking card call input memory map
+pub data Unlocking (card : Card) (call : Call) (input : List ℕ) (seen : Seen) : Type 0 where
+  none-stored : call ≡ PowerOn → length (stored (card .lock)) ≡ 0 → Unlocking card call input seen
+  forced : ForcedErase card call input seen → Unlocking card call input seen
+  unlocked : UnlockGranted card call input seen → Unlocking card call input seen
 
 -- "others answer R1 with bit 24, no move": a frame leaves state, address and block length as they were, and every byte that is lent
-pub record Unmoved (card : Card) (wins : Bool) (frame memory map : List ℕ) (room : ℕ) : Type 0 where
-  pub state : stepOf card (Frame wins) frame (length memory) map room .card .link .state ≡ card .link .state
-  pub address : stepOf card (Frame wins) frame (length memory) map room .card .link .address ≡ card .link .address
-  pub length-kept : stepOf card (Frame wins) frame (length memory) map room .card .link .length ≡ card .link .length
-  pub memory-kept : memoryOf card (Frame wins) frame memory map ≡ memory
-  pub map-kept : mapOf card (Frame wins) frame (length memory) map ≡ map
+pub record Unmoved (card : Card) (wins : Bool) (frame : List ℕ) (lent : Lent) (room : ℕ) : Type 0 where
+  pub state : stepOf card (Frame wins) frame (seen lent) room .card .link .state ≡ card .link .state
+  pub address : stepOf card (Frame wins) frame (seen lent) room .card .link .address ≡ card .link .address
+  pub length-kept : stepOf card (Frame wins) frame (seen lent) room .card .link .length ≡ card .link .length
+  pub lent-kept : lentAfter card (Frame wins) frame lent ≡ lent

@@ -4,14 +4,16 @@ use mathlib.Core.Path.{_≡_}
 use mathlib.Core.Bool.{true, false}
 use mathlib.Core.List.{List, []}
 use Prim.Native.Nat.{ℕ, _+_, _/_, _%_, _^_, _≤_, _<_}
-use lib.ListN.{length, take}
+use lib.ListN.{take}
 use Rattle.base.specs.Sizes.{sectorSize}
 use Rattle.card.specs.declared.Call.the-variants.{Frame, BlockIn, BlockOut, WorkDone}
 use Rattle.card.specs.declared.Outcome.the-variants.{Wrote}
 use Rattle.card_record.specs.Record.{sizeOf, csdProtects}
 use Rattle.card_record.specs.declared.Card.{Card}
 use Rattle.made.specs.Run.{World, Input, given, next, outcomeOf, outputAfter}
-use Rattle.store.specs.Map.{lentRight, protectedIn}
+use Rattle.store.specs.Lent.{seen, lendingOf}
+use Rattle.store.specs.Map.{protectedIn}
+use Rattle.store.specs.declared.Lending.the-variants.{Right}
 use Rattle.wire.specs.Blocks.{blockOf}
 use Rattle.wire.specs.Frames.{commandFrame}
 
@@ -48,9 +50,9 @@ pub record Awaiting (card : Card) (at : ℕ) : Type 0 where
 
 -- a block at an address would be taken: nothing is lent wrong (12), the block lies in memory (18), and not in protected memory (19)
 pub record Writable (w : World) (at : ℕ) : Type 0 where
-  pub lent : lentRight (length (w .memory)) (w .map) (w .card .registers .groups) ≡ true
+  pub right : lendingOf (seen (w .lent)) (w .card .registers .groups) ≡ Right
   pub in-range : at + sectorSize ≤ sizeOf (w .card .registers .groups)
-  pub free : protectedIn (w .map) (csdProtects (w .card .registers .csd)) (at / sectorSize) ≡ false
+  pub free : protectedIn (w .lent .map) (csdProtects (w .card .registers .csd)) (at / sectorSize) ≡ false
 
 -- then 514 bytes go out, and stand at the front of the lent output: the block's 512 bytes and their CRC16
 pub record ReadsBack (block : List ℕ) (w : World) (output : List ℕ) : Type 0 where

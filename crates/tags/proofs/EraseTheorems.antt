@@ -15,7 +15,7 @@ use Rattle.base.specs.Choice.{pick}
 use Rattle.base.specs.Sizes.{protectionGroupSize}
 use Rattle.tags.specs.Made.{MadeRange, MadeTags}
 use Rattle.tags.specs.Tagging.{tagsOf, anyOf, isComplete}
-use Rattle.tags.specs.Tags.{within, covers, taggedOf}
+use Rattle.tags.specs.Tags.{covers, taggedOf}
 use Rattle.tags.specs.declared.Kind.the-variants.{Sectors, Groups}
 use Rattle.tags.specs.declared.Range.{Range}
 use Rattle.tags.specs.declared.Range.the-variants.{Nothing, Start, Full}

@@ -3,7 +3,7 @@
 --   number-short, hexed-long, end-short, head-short      the pieces of a line
 --   word-short, plain-long, named-short, refusal-short   whole lines
 -- Assumes nothing.
-use mathlib.Core.Path.{_≡_, _∙_}
+use mathlib.Core.Path.{_≡_}
 use mathlib.Core.Bool.{true, false}
 use mathlib.Core.List.{List, [], _∷_, _++_}
 use Prim.Native.Nat.{ℕ, zero, suc, _+_, _*_, _/_, _%_, _≤_}

@@ -11,6 +11,8 @@
 --   wrote-as       the same text, said otherwise
 --   wrote-at       a text that is written from the front on stands at the front
 --   wrote-line     and ends at its length
+--   line-as, line-most   the same line, said otherwise; a line that is not longer than more bytes
+--   line-whole     where there is room for it a line is written whole
 -- Assumes nothing.
 use mathlib.Core.Path.{_≡_, refl, sym, ap, ap₂, _∙_, subst}
 use mathlib.Core.Bool.{true, false}
@@ -24,7 +26,7 @@ use lib.Dec.{leb}
 use Rattle.base.proofs.Cases.{cases}
 use Rattle.base.proofs.Copying.{copied-front, copied-whole, copied-length}
 use Rattle.base.specs.Output.{copied}
-use Rattle.text.specs.Writing.{Put, Wrote}
+use Rattle.text.specs.Writing.{Put, Wrote, Line}
 
 -- a is the place or the end, k how many
 pub part-take : (s : List ℕ) (from n a k : ℕ) → a ≡ min from (length s) → k ≡ min n (length s - a) → take (a + k - a) (drop a s) ≡ take n (drop from s)
@@ -168,3 +170,12 @@ wrote-none o = record { end = refl; front = refl; back = refl; same = refl }
 
 pub wrote-line : {o p : List ℕ} {r : ℕ} {t : List ℕ} → Wrote o p 0 r t → r ≡ length t
 wrote-line w = omega (arith, w .end)
+
+pub line-as : {m : ℕ} {o p : List ℕ} {r : ℕ} {t u : List ℕ} → t ≡ u → Line m o p r t → Line m o p r u
+line-as {m} {o} {p} {r} e l = subst (λ (x : List ℕ). Line m o p r x) e l
+
+pub line-most : {m n : ℕ} {o p : List ℕ} {r : ℕ} {t : List ℕ} → m ≤ n → Line m o p r t → Line n o p r t
+line-most h l = record { put = l .put; short = omega (arith, l .short) }
+
+pub line-whole : {m : ℕ} {o p : List ℕ} {r : ℕ} {t : List ℕ} → m ≤ length o → Line m o p r t → Wrote o p 0 r t
+line-whole h l = put-whole (omega (arith, l .short)) (l .put)

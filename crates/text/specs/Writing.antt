@@ -2,7 +2,7 @@
 -- Assumes nothing.
 use mathlib.Core.Path.{_≡_}
 use mathlib.Core.List.{List, _++_}
-use Prim.Native.Nat.{ℕ, _+_, min}
+use Prim.Native.Nat.{ℕ, _+_, _≤_, min}
 use lib.ListN.{length, take, drop}
 use Rattle.base.specs.Output.{copied}
 
@@ -17,3 +17,8 @@ pub record Wrote (before after : List ℕ) (at next : ℕ) (text : List ℕ) : T
   pub front : take next after ≡ take at before ++ text
   pub back : drop next after ≡ drop next before
   pub same : length after ≡ length before
+
+-- a line at the front of an output, as far as there is room for it, and not longer than so many bytes: whoever has room for these has it whole
+pub record Line (most : ℕ) (before after : List ℕ) (next : ℕ) (text : List ℕ) : Type 0 where
+  pub put : Put before after 0 next text
+  pub short : length text ≤ most

@@ -1,89 +1,167 @@
--- `bus::frame` meets its contract: 13, then 1 and 2 as the frame is read, then 3, which tells every card, and then the command.
+-- `bus::frame` meets its contract. The loop's invariant: the first cards have had their turns, the others are as they were, and the line
+-- holds what the first ones sent.
 -- Assumes nothing.
-use mathlib.Core.Bool.{Bool, true, false}
-use mathlib.Core.List.{List, map}
-use mathlib.Core.Path.{_≡_, sym, ap, _∙_}
-use Prim.Native.Nat.{ℕ, _≤_}
+use mathlib.Core.List.{map}
+use mathlib.Core.Logic.{⊎-elim}
+use mathlib.Core.Path.{_≡_, refl, sym, ap, _∙_, subst}
+use Prim.Native.Nat.{ℕ, _≤_, _-_}
 use native.Mathlib.Omega.{arith}
 use borrow.Author.Needs.{needs}
-use borrow.Author.Tests.{le-leb, lt-leb}
+use borrow.Author.Tests.{not-false}
 use denote.Ref.{now}
-use Rattle.base.specs.Choice.{unless}
+use lib.ListN.{length, take, length-map}
 use Rattle.base.specs.Refusals.{by}
-use Rattle.wire.specs.Frames.{framingOf}
-use Rattle.wire.specs.declared.Framing.{Framing}
-use Rattle.wire.specs.declared.Framing.the-variants.{Framed}
-use Rattle.bus.specs.Bus.{countOf, cardsOf, withCards, refusedOn, damagedCard, commandFor, framedOn, busFrame}
+use Rattle.bus.proofs.Asking.{asked-answered, asked-small}
+use Rattle.bus.proofs.Lists.{changed, change-all}
+use Rattle.bus.proofs.Telling.{after, frame, heard-start, tell-turn, tell-alone, line-is-heard, told-is-command}
+use Rattle.bus.specs.Bus.{countOf, refusedOn}
+use Rattle.bus.specs.Hearing.{quiet, heardFrom}
 use Rattle.bus.specs.declared.Bus.{Bus}
+use Rattle.bus.specs.declared.Heard.{Heard}
 use Rattle.bus.proofs.frame.Statement.{statement}
 use Rattle.bus.proofs.frame.Tie as tie
 
--- a bus of at least one card judges by the frame
-judged : (bus : Bus) (frame : List ℕ) (framing : Framing) → 1 ≤ countOf bus → framingOf frame ≡ framing → framedOn bus framing ≡ busFrame bus frame
-unfolding busFrame
-judged bus frame framing some e =
-    ap (framedOn bus) (sym e)
-    ∙ sym (ap (λ (t : Bool). unless t (refusedOn bus (by 13)) (framedOn bus (framingOf frame))) (le-leb 1 (countOf bus) some))
+abbrev Inv-loop : tie.InvT-loop
+Inv-loop bytes end index argument low next₀ heard₀ i₀ next heard i =
+    (i ≤ end)
+    × (end ≡ countOf next₀)
+    × (next .count ≡ next₀ .count)
+    × (next .cards ≡ changed (after next₀ index argument) i (next₀ .cards))
+    × (heard ≡ heardFrom quiet (map (frame next₀ index argument) (take i (next₀ .cards))))
+    × (heard .length ≤ 17)
 
--- and by its CRC7
-checked : (bus : Bus) (index argument : ℕ) (right told : Bool) → right ≡ told
-    → unless told (refusedOn (withCards bus (map damagedCard (cardsOf bus))) (by 3)) (commandFor bus index argument)
-    ≡ framedOn bus (Framed index argument right)
-checked bus index argument right told e =
-    sym (ap (λ (t : Bool). unless t (refusedOn (withCards bus (map damagedCard (cardsOf bus))) (by 3)) (commandFor bus index argument)) e)
+abbrev μ-loop : tie.MeasureT-loop
+μ-loop bytes end index argument low next₀ heard₀ i₀ next heard i = end - i
 
-returns : tie.Need-returns
-unfolding busFrame
+returns : tie.Need-returns Inv-loop μ-loop
 returns c =
-    let a = c .before .before .before .before .args in
-    simp (lt-leb 1 (countOf (a .bus)) (omega (arith, c .before .before .places .ensures))) (c .refuse .ensures)
+    let at-asked = c .before .before .before .before in
+    let a = at-asked .before .before .before .args in
+    c .refuse .ensures
+    ∙ asked-answered (a .bus) (now (a .frame)) _ _ _ (at-asked .before .places .ensures) (at-asked .asked-of .ensures) (c .before .before .asked .given .1)
 
-returns-2 : tie.Need-returns-2
+returns-2 : tie.Need-returns-2 Inv-loop μ-loop
 returns-2 c =
-    let k = c .before .before in
-    let g = k .before .framing .given in
-    let u = k .before .before .before in
-    let a = u .before .before .before .before .args in
-    c .command-for .ensures
-    ∙ checked (a .bus) _ _ _ true (c .before .if2 .taken)
-    ∙ judged (a .bus) (now (a .frame)) _ (omega (arith, u .before .before .places .ensures, u .before .if1 .left))
-    (sym (u .unframe .ensures) ∙ g .1)
-
-returns-3 : tie.Need-returns-3
-returns-3 c =
-    let k = c .before .before .before in
-    let g = k .before .framing .given in
-    let u = k .before .before .before in
-    let a = u .before .before .before .before .args in
+    let at-asked = c .before .before .before .before in
+    let a = at-asked .before .before .before .args in
     c .refuse2 .ensures
     ∙ ap (λ (bus : Bus). refusedOn bus (by 3)) (c .before .damage .ensures)
-    ∙ checked (a .bus) _ _ _ false (c .before .before .if2 .left)
-    ∙ judged (a .bus) (now (a .frame)) _ (omega (arith, u .before .before .places .ensures, u .before .if1 .left))
-    (sym (u .unframe .ensures) ∙ g .1)
+    ∙ asked-answered (a .bus) (now (a .frame)) _ _ _ (at-asked .before .places .ensures) (at-asked .asked-of .ensures) (c .before .before .enum-told .given .1)
 
-returns-4 : tie.Need-returns-4
-returns-4 c =
-    let f = c .before .before in
-    let u = f .before .before in
-    let a = u .before .before .before .before .args in
-    c .refuse3 .ensures
-    ∙ judged (a .bus) (now (a .frame)) _ (omega (arith, u .before .before .places .ensures, u .before .if1 .left))
-    (sym (u .unframe .ensures) ∙ f .framing2 .given .1)
+loop-holds : tie.Need-loop-holds Inv-loop μ-loop
+unfolding quiet
+loop-holds c =
+    let at-command = c .before .before .before in
+    let at-places = at-command .before .before .before in
+    let asked = at-command .asked2 .given .0 in
+    let bus = at-places .before .before .args .bus in (
+      search needs,
+      at-places .places .ensures,
+      refl,
+      refl,
+      c .quiet .ensures ∙ heard-start (frame bus (asked .0) (asked .1 .0)) (bus .cards),
+      subst (λ (h : Heard). h .length ≤ 17) (sym (c .quiet .ensures)) (omega arith),
+    )
+
+turn-requires : tie.Need-turn-requires Inv-loop μ-loop
+turn-requires c κs =
+    let at-decide = c .before .before .before in
+    let at-loop = at-decide .before .before .before .before in
+    let at-command = at-loop .before .before .before .before in
+    let at-asked = at-command .before .before in (
+      at-loop .loop .inv .5,
+      asked-small _ _ _ _ _ (at-asked .asked-of .ensures) (at-command .asked2 .given .1),
+      at-decide .decide .ensures,
+    )
+
+loop-again : tie.Need-loop-again Inv-loop μ-loop
+loop-again c =
+    let alone = c .before .leaves-alone in
+    let at-decide = c .before .before in
+    let at-wins = at-decide .before in
+    let at-loop = at-wins .before .before .before in
+    let l = at-loop .loop in
+    let low = at-loop .before .before .lowest .ensures in
+    let s = at-loop .before .before .before .before .before .before .before .before .before in
+    let bus = s .args .bus in
+    let long : length (bus .cards) ≡ 30 = simp length-map at (s .good .0 .1 .1 .0 .1 .0 .1) in
+    ⊎-elim
+    (λ w.
+    let more =
+    tell-turn bus _ _ (l .i) _ _ (l .next .cards) (l .heard) _ _ long (omega (arith, l .inv .1)) (low .0) (low .1) (l .inv .3) (l .inv .4)
+    (at-wins .wins .ensures) (w .2 .ensures .0) in (
+      search needs,
+      l .inv .1,
+      ap (λ (b : Bus). b .count) (w .5) ∙ l .inv .2,
+      ap (λ (b : Bus). b .cards) (w .5) ∙ more .0,
+      w .6 ∙ more .1,
+      subst (λ (h : Heard). h .length ≤ 17) (sym (w .6)) (w .2 .ensures .1),
+    ))
+    (λ w.
+    let more =
+    tell-alone bus _ _ (l .i) _ _ (l .next .cards) (l .heard) _ _ long (omega (arith, l .inv .1)) (low .0) (low .1) (l .inv .3) (l .inv .4)
+    (at-wins .wins .ensures) (at-decide .decide .ensures) (sym (alone .ensures) ∙ not-false (alone .result) (w .0 .left)) in (
+      search needs,
+      l .inv .1,
+      ap (λ (b : Bus). b .count) (w .1) ∙ l .inv .2,
+      ap (λ (b : Bus). b .cards) (w .1) ∙ more .0,
+      w .2 ∙ more .1,
+      subst (λ (h : Heard). h .length ≤ 17) (sym (w .2)) (l .inv .5),
+    ))
+    (c .if1 .came)
+
+returns-3 : tie.Need-returns-3 Inv-loop μ-loop
+returns-3 c =
+    let shown = c .before .shown-by .ensures in
+    let line = c .line-by .ensures in
+    let at-loop = c .before .before .before in
+    let l = at-loop .loop in
+    let low = at-loop .before .before .lowest .ensures in
+    let at-command = at-loop .before .before .before .before in
+    let at-asked = at-command .before .before in
+    let s = at-asked .before .before .before in
+    let a = s .args in
+    let asked = at-command .asked2 .given .0 in
+    let long : length (a .bus .cards) ≡ 30 = simp length-map at (s .good .0 .1 .1 .0 .1 .0 .1) in
+    let all : l .i ≡ countOf (a .bus) = omega (arith, l .inv .1) in
+    let heard = l .inv .4 ∙ ap (λ (k : ℕ). heardFrom quiet (map (frame (a .bus) (asked .0) (asked .1 .0)) (take k (a .bus .cards)))) all in
+    told-is-command (a .bus) (l .next) (l .heard) _ _ (asked .0) (asked .1 .0)
+    (change-all (after (a .bus) (asked .0) (asked .1 .0)) (a .bus) (l .next) (l .i) long all (l .inv .2) (l .inv .3))
+    (line-is-heard (a .bus) (asked .0) (asked .1 .0) (l .heard) (low .1) (l .inv .5) (line .1) heard) shown (line .0)
+    ∙ asked-answered (a .bus) (now (a .frame)) _ _ _ (at-asked .before .places .ensures) (at-asked .asked-of .ensures) (at-command .asked2 .given .1)
 
 pub frame-spec : {M : Type 1} → statement M
 frame-spec =
     tie.close
     (tie.spec
+    Inv-loop
+    μ-loop
     (λ c κs. search needs)
+    (λ c κs. search needs)
+    (λ c. search needs)
     (λ c κs. search needs)
     returns
-    (λ c κs. search needs)
     (λ c. search needs)
     (λ c κs. search needs)
-    (λ c κs. search needs)
-    (λ c κs. search needs)
-    (λ c. search needs)
     (λ c κs. search needs)
     returns-2
-    returns-3
-    returns-4)
+    (λ c. search needs)
+    (λ c κs. search needs)
+    (λ c κs. search needs)
+    loop-holds
+    (λ c. search needs)
+    (λ c. search needs)
+    (λ c κs. search needs)
+    (λ c κs. search needs)
+    (λ c κs. search needs)
+    (λ c. search needs)
+    (λ c. search needs)
+    turn-requires
+    (λ c. search needs)
+    (λ c. search needs)
+    (λ c. search needs)
+    (λ c. search needs)
+    loop-again
+    (λ c κs. c .before .loop .inv .5)
+    (λ c κs. c .before .before .loop .inv .5)
+    returns-3)

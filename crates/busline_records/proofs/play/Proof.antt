@@ -1,7 +1,7 @@
 -- `busline_records::play` meets its contract. The loop's invariant: the text written so far, and then what is left of the script played, is the
 -- piece played.
 -- Assumes nothing.
-use mathlib.Core.Path.{_≡_, refl, ap, _∙_}
+use mathlib.Core.Path.{refl}
 use Prim.Native.Nat.{_+_, _-_, _≤_}
 use native.Mathlib.Omega.{arith}
 use borrow.Author.Needs.{needs}

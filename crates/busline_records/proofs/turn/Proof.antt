@@ -1,12 +1,10 @@
 -- `busline_records::turn` meets its contract: the record at the place, and its line behind the text.
 -- Assumes nothing.
-use mathlib.Core.Path.{refl, ap, _∙_}
-use mathlib.Core.List.{List}
-use Prim.Native.Nat.{ℕ, _-_}
+use mathlib.Core.Path.{refl}
+use Prim.Native.Nat.{_-_}
 use native.Mathlib.Omega.{arith}
 use borrow.Author.Needs.{needs}
 use denote.Ref.{now}
-use lib.ListN.{length}
 use Rattle.busline_records.proofs.Playing.{read-on, line-at}
 use Rattle.busline_records.proofs.turn.Statement.{statement}
 use Rattle.busline_records.proofs.turn.Tie as tie

@@ -3,7 +3,8 @@
 use borrow.Author.Needs.{needs}
 use denote.Ref.{now}
 use lib.ListN.{length}
-use Rattle.cardline_player.proofs.Turning.{turn-answer, turn-buffer, turn-memory, turn-map, turn-text, turn-room}
+use Rattle.cardline_player.proofs.Turning.{turn-answer, turn-buffer, turn-lent, turn-text, turn-room}
+use Rattle.store.specs.Lent.{lentOf}
 use Rattle.cardline_player.proofs.advance.Statement.{statement}
 use Rattle.cardline_player.proofs.advance.Tie as tie
 
@@ -19,17 +20,15 @@ returns c =
     let s = at-settle .settle in
     let p = at-hand .at-hand .ensures in
     let buffer = now (a .buffer) in
-    let memory = now (a .memory) in
-    let map = now (a .map) in
+    let lent = lentOf (now (a .memory)) (now (a .map)) in
     let room = length (now (a .out)) in
     let e = d .ensures .0 in
-    let answer = turn-answer (a .progress) (a .from) (a .to) buffer memory map room _ (d .result) p e (s .result) (s .ensures .0) in
-    let moved = turn-buffer (a .progress) (a .from) (a .to) buffer memory map room _ (d .result) p e _ (s .ensures .1) in
-    let stored = turn-memory (a .progress) (a .from) (a .to) buffer memory map room _ (d .result) p e _ (d .ensures .1 .0) in
-    let mapped = turn-map (a .progress) (a .from) (a .to) buffer memory map room _ (d .result) p e _ (d .ensures .1 .1 .0) in
-    let text = turn-text (a .progress) (a .from) (a .to) buffer memory map room _ (d .result) p e (s .result) (s .ensures .0) (now (a .out)) _ (d .ensures .1 .1 .1) in
-    let more = turn-room (a .progress) (a .from) (a .to) buffer memory map room _ (d .result) p e (s .result) (s .ensures .0) (λ i. at-known .slice-known .given i .fits) in
-    (answer, (moved, (stored, (mapped, (text, more)))))
+    let answer = turn-answer (a .progress) (a .from) (a .to) buffer lent room _ (d .result) p e (s .result) (s .ensures .0) in
+    let moved = turn-buffer (a .progress) (a .from) (a .to) buffer lent room _ (d .result) p e _ (s .ensures .1) in
+    let kept = turn-lent (a .progress) (a .from) (a .to) buffer lent room _ (d .result) p e _ (d .ensures .1 .0) in
+    let text = turn-text (a .progress) (a .from) (a .to) buffer lent room _ (d .result) p e (s .result) (s .ensures .0) (now (a .out)) _ (d .ensures .1 .1) in
+    let more = turn-room (a .progress) (a .from) (a .to) buffer lent room _ (d .result) p e (s .result) (s .ensures .0) (λ i. at-known .slice-known .given i .fits) in
+    (answer, (moved, (kept, (text, more))))
 
 pub advance-spec : {M : Type 1} → statement M
 advance-spec =

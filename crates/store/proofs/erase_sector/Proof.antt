@@ -20,7 +20,7 @@ returns-2 : tie.Need-returns-2
 unfolding sectorErased
 returns-2 c =
     let w = c .before .before in
-    let p = w .before .before in
+    let p = w .before .before .before in
     let t = p .before .before in
     let s = t .before .before in
     let is-tagged = sym (t .before .tagged .ensures) ∙ t .if1 .taken in

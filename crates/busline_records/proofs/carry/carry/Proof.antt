@@ -1,6 +1,5 @@
 -- `busline_records::carry::carry` meets its contract: each return is told what is asked for.
 -- Assumes nothing.
-use Prim.Native.Nat.{_≤_}
 use native.Mathlib.Omega.{arith}
 use borrow.Author.Needs.{needs}
 use Rattle.text.proofs.Writing.{wrote-none}

@@ -1,4 +1,4 @@
--- `card::frames::frame` meets its contract: what was judged is carried out, and an erase that spared a sector is told.
+-- `card::frames::frame` meets its contract: 12, and then the frame as it was read.
 -- Assumes nothing.
 use mathlib.Core.Path.{_≡_, sym, ap, _∙_}
 use mathlib.Core.Bool.{Bool}
@@ -6,82 +6,70 @@ use mathlib.Core.List.{List}
 use Prim.Native.Nat.{ℕ}
 use borrow.Author.Needs.{needs}
 use denote.Ref.{now}
-use lib.ListN.{length}
-use Rattle.command.specs.declared.Change.{Change}
+use Rattle.base.specs.declared.Refusal.{Refusal}
 use Rattle.card_record.specs.declared.Card.{Card}
-use Rattle.store.specs.Erase.{erased, anySpared}
-use Rattle.card.specs.Frame.{spares, sparedTold, erasedBy, protectedBy, frameJudged, frameStepped}
-use Rattle.card.specs.declared.FrameJudged.{FrameJudged}
+use Rattle.store.specs.Lent.{Seen, lentOf, seen, lendingOf, onceLent}
+use Rattle.store.specs.declared.Lending.{Lending}
+use Rattle.store.specs.declared.Lending.the-variants.{Right, Refused}
+use Rattle.wire.specs.Frames.{framingOf}
+use Rattle.wire.specs.declared.Framing.{Framing}
+use Rattle.card.specs.Frame.{FrameJudged, frameRefused, framed, frameJudged, frameTold, frameStepped, changedBy}
 use Rattle.card.proofs.frames.frame.Statement.{statement}
 use Rattle.card.proofs.frames.frame.Tie as tie
 
--- what follows from a change that is known: the answer, and that it is the one that the definition has
-told : (card : Card) (wins : Bool) (frame : List ℕ) (memory : ℕ) (map : List ℕ) (j : FrameJudged) {change : Change} → j ≡ frameJudged card wins frame memory map
-    → j .change ≡ change
-    → (sparedTold (j .stepped) (spares card memory map change) ≡ frameStepped card wins frame memory map)
-    × (change ≡ frameJudged card wins frame memory map .change)
-unfolding frameStepped
-told card wins frame memory map j e g = (
-  ap (λ (x : Change). sparedTold (j .stepped) (spares card memory map x)) (sym g)
-      ∙ ap (λ (x : FrameJudged). sparedTold (x .stepped) (spares card memory map (x .change))) e,
-  sym g ∙ ap (λ (x : FrameJudged). x .change) e,
-)
+module _ (card : Card) (wins : Bool) (frame : List ℕ) (seen : Seen) where
+  judged : {lending : Lending} → lendingOf seen (card .registers .groups) ≡ lending
+      → onceLent lending (frameRefused card) (framed card wins (framingOf frame)) ≡ frameJudged card wins frame seen
+  unfolding frameJudged
+  judged e = sym (ap (λ (x : Lending). onceLent x (frameRefused card) (framed card wins (framingOf frame))) e)
+
+  heard : {framing : Framing} → framing ≡ framingOf frame → lendingOf seen (card .registers .groups) ≡ Right
+      → framed card wins framing ≡ frameJudged card wins frame seen
+  heard f e = ap (framed card wins) f ∙ judged e
+
+  unheard : {refusal : Refusal} → lendingOf seen (card .registers .groups) ≡ Refused refusal → frameRefused card refusal ≡ frameJudged card wins frame seen
+  unheard e = judged e
 
 returns : tie.Need-returns
+unfolding frameStepped
 returns c =
-    let j = c .before .before .before in
-    let a = j .before .before .before .before .before .args in
+    let k = c .before .before .before .before in
+    let u = k .before .before .before in
+    let l = u .before .before .before in
+    let a = l .before .before .before .before .before .before .args in
     let m = now (a .memory) in
     let p = now (a .map) in
-    let t = told (a .card) (a .wins) (now (a .frame)) (length m) p (j .judge .result) (j .judge .ensures) (c .enum-told .given .1) in
-    (t .0, (ap (erasedBy (a .card) m p) (t .1), ap (protectedBy p) (t .1)))
+    let j = heard (a .card) (a .wins) (now (a .frame)) (seen (lentOf m p)) (u .unframe .ensures) (sym (l .lent-check .ensures) ∙ u .before .enum-told .given .1) in (
+      k .framed .ensures .0 ∙ ap (frameTold (a .card) (seen (lentOf m p))) j,
+      k .framed .ensures .1 ∙ ap (λ (x : FrameJudged). changedBy (a .card) (x .change) (lentOf m p)) j,
+    )
 
 returns-2 : tie.Need-returns-2
+unfolding frameStepped
 returns-2 c =
-    let s = c .before .before in
-    let k = s .before .before .before in
-    let j = k .before .before .before in
-    let a = j .before .before .before .before .before .args in
+    let t = c .before .before in
+    let l = t .before .before in
+    let a = l .before .before .before .before .before .before .args in
     let m = now (a .memory) in
     let p = now (a .map) in
-    let t = told (a .card) (a .wins) (now (a .frame)) (length m) p (j .judge .result) (j .judge .ensures) (k .change .given .1) in
-    (t .0, (ap (erasedBy (a .card) m p) (t .1), s .protect .ensures ∙ ap (protectedBy p) (t .1)))
-
-returns-3 : tie.Need-returns-3
-returns-3 c =
-    let s = c .before .before .before in
-    let w = s .before .before .before .before .before in
-    let k = w .before .before .before in
-    let j = k .before .before .before in
-    let a = j .before .before .before .before .before .args in
-    let m = now (a .memory) in
-    let p = now (a .map) in
-    let tags = a .card .link .tags in
-    let t = told (a .card) (a .wins) (now (a .frame)) (length m) p (j .judge .result) (j .judge .ensures) (k .enum-told2 .given .1) in
-    let spared = s .erase .ensures .0 ∙ ap (λ (x : Bool). anySpared p tags x (length m)) (w .csd-protects .ensures) in (
-      c .tell-spared .ensures ∙ ap (sparedTold (j .judge .result .stepped)) spared ∙ t .0,
-      (
-        s .erase .ensures .1 ∙ ap (λ (x : Bool). erased p tags x m) (w .csd-protects .ensures) ∙ ap (erasedBy (a .card) m p) (t .1),
-        ap (protectedBy p) (t .1),
-      ),
+    let j = unheard (a .card) (a .wins) (now (a .frame)) (seen (lentOf m p)) (sym (l .lent-check .ensures) ∙ t .lending .given .1) in (
+      c .refuse .ensures ∙ ap (frameTold (a .card) (seen (lentOf m p))) j,
+      ap (λ (x : FrameJudged). changedBy (a .card) (x .change) (lentOf m p)) j,
     )
 
 pub frame-spec : {M : Type 1} → statement M
 frame-spec =
     tie.close
     (tie.spec
-    (λ c κs. search needs)
-    (λ c. search needs)
     (λ c. search needs)
     (λ c κs. search needs)
     (λ c. search needs)
     (λ c κs. search needs)
     (λ c κs. search needs)
+    (λ c. search needs)
     (λ c κs. search needs)
+    (λ c. search needs)
     (λ c. search needs)
     returns
     (λ c. search needs)
-    returns-2
-    (λ c. search needs)
-    (λ c. search needs)
-    returns-3)
+    returns-2)

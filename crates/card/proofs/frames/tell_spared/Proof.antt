@@ -7,8 +7,8 @@ use Rattle.card.proofs.frames.tell_spared.Tie as tie
 
 returns-2 : tie.Need-returns-2
 returns-2 c =
-    let s = c .before .before .before in
-    let i = s .before .before .before .before in
+    let s = c .before in
+    let i = s .before in
     simp (s .set .ensures, not-false (i .before .args .spared) (i .if1 .left))
 
 pub tell-spared-spec : {M : Type 1} → statement M

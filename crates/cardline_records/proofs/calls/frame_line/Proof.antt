@@ -1,6 +1,10 @@
 -- `cardline_records::calls::frame_line` meets its contract: each return is told what became of the call.
 -- Assumes nothing.
+use Prim.Native.Nat.{_≤_}
+use native.Mathlib.Omega.{arith}
 use borrow.Author.Needs.{needs}
+use Rattle.cardline_looks.specs.Lines.{lineRoom}
+use Rattle.text.proofs.Writing.{line-most}
 use Rattle.cardline_records.proofs.calls.frame_line.Statement.{statement}
 use Rattle.cardline_records.proofs.calls.frame_line.Tie as tie
 
@@ -11,7 +15,9 @@ returns-2 : tie.Need-returns-2
 returns-2 c = rw (c .before .before .before .before .enum-told2 .given .1) (c .before .before .sent-line2 .ensures)
 
 returns-3 : tie.Need-returns-3
-returns-3 c = rw (c .before .before .before .before .before .outcome .given .1) (c .before .before .refused-call .ensures)
+returns-3 c =
+    let h : lineRoom 7 0 ≤ lineRoom 20 0 = omega arith in
+    rw (c .before .before .before .before .before .before .outcome .given .1) (line-most h (c .before .before .refused .ensures))
 
 pub frame-line-spec : {M : Type 1} → statement M
 frame-line-spec =
@@ -21,6 +27,7 @@ frame-line-spec =
     (λ c κs. search needs)
     (λ c. search needs)
     (λ c κs. search needs)
+    (λ c. search needs)
     (λ c. search needs)
     (λ c κs. search needs)
     (λ c. search needs)

@@ -2,7 +2,7 @@
 -- Assumes nothing.
 use borrow.Author.Needs.{needs}
 use denote.Ref.{now}
-use Rattle.cardline_records.proofs.Lending.{stepped-answer, stepped-memory, stepped-map, stepped-output}
+use Rattle.cardline_records.proofs.Lending.{stepped-answer, stepped-lent, stepped-output}
 use Rattle.cardline_records.proofs.calls.lent_step.Statement.{statement}
 use Rattle.cardline_records.proofs.calls.lent_step.Tie as tie
 
@@ -22,13 +22,10 @@ returns c =
     let memory = now (a .memory) in
     let map = now (a .map) in
     let output = now (a .output) in (
-      stepped-answer (a .progress) (a .call) input memory map output k j ek ej (s .result) (s .ensures .0),
+      stepped-answer (a .card) (a .lent) (a .call) input memory map output k j ek ej (s .result) (s .ensures .0),
       (
-        stepped-memory (a .progress) (a .call) input memory map output k j ek ej (s .last .1 .1 .1 .0) (s .ensures .1 .0),
-        (
-          stepped-map (a .progress) (a .call) input memory map output k j ek ej (s .last .1 .1 .1 .1 .0) (s .ensures .1 .1 .0),
-          stepped-output (a .progress) (a .call) input memory map output k j ek ej (s .last .1 .1 .1 .1 .1 .0) (s .ensures .1 .1 .1),
-        ),
+        stepped-lent (a .card) (a .lent) (a .call) input memory map output k j ek ej (s .last .1 .1 .1 .0) (s .last .1 .1 .1 .1 .0) (s .ensures .1 .0),
+        stepped-output (a .card) (a .lent) (a .call) input memory map output k j ek ej (s .last .1 .1 .1 .1 .1 .0) (s .ensures .1 .1),
       ),
     )
 

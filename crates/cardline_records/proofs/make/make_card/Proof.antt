@@ -6,7 +6,7 @@ use Prim.Native.Nat.{ℕ}
 use borrow.Author.Needs.{needs}
 use denote.Ref.{now}
 use lib.ListN.{length, take}
-use Rattle.cardline_records.proofs.Lending.{filled-length}
+use Rattle.store.specs.Lent.{lentOf, seenOf}
 use Rattle.cardline_records.specs.Makes.{madeFrom, cardMade}
 use Rattle.base.specs.Output.{copied}
 use Rattle.cardline_records.proofs.make.make_card.Statement.{statement}
@@ -26,11 +26,11 @@ returns c =
     let a = at-start .args in
     let m = a .making in
     let s = now (a .script) in
-    let memory = now (a .memory) in
     let f = at-fill-front .fill-front .ensures in
     let g = at-copy .copy .ensures ∙ ap (λ (l : List ℕ). copied l (now (a .map)) 0) (at-part .part .ensures .0) in
-    let e = ap length (at-part2 .part2 .ensures .0 ∙ ap (take (m .memory)) f) ∙ filled-length memory (m .memory) (m .fill) in
-    (c .made-of .ensures ∙ ap₂ (λ (k : ℕ) (l : List ℕ). madeFrom m s k l) e (c .before .part3 .ensures .0 ∙ ap (take (m .map)) g), (f, g))
+    let own = at-part2 .part2 .ensures .0 ∙ ap (take (m .memory)) f in
+    let entries = c .before .part3 .ensures .0 ∙ ap (take (m .map)) g in
+    (c .made-of .ensures ∙ ap₂ (λ (x y : List ℕ). madeFrom m s (seenOf (length x) y)) own entries, ap₂ (λ (x y : List ℕ). lentOf x y) f g)
 
 pub make-card-spec : {M : Type 1} → statement M
 make-card-spec =

@@ -1,31 +1,18 @@
--- `crossing::from_numbers::card_of` meets its contract: each number read in its place.
+-- `crossing::from_numbers::card_of` meets its contract: each part taken in by its own function.
 -- Assumes nothing.
 use borrow.Author.Needs.{needs}
-use Rattle.crossing.specs.Record.{cardOf}
+use Rattle.crossing.specs.Record.{lockOf, cardOf}
 use Rattle.crossing.proofs.from_numbers.card_of.Statement.{statement}
 use Rattle.crossing.proofs.from_numbers.card_of.Tie as tie
 
 pub card-of-spec : {M : Type 1} → statement M
-unfolding cardOf
+unfolding cardOf lockOf
 card-of-spec =
     tie.close
     (tie.spec
-    (λ c. search needs)
-    (λ c. search needs)
-    (λ c. search needs)
-    (λ c. search needs)
-    (λ c. search needs)
-    (λ c. search needs)
-    (λ c. search needs)
-    (λ c. search needs)
     (λ c κs. search needs)
     (λ c. search needs)
     (λ c. search needs)
-    (λ c. search needs)
-    (λ c. search needs)
-    (λ c. search needs)
-    (λ c. search needs)
-    (λ c. search needs)
-    (λ c. search needs)
     (λ c κs. search needs)
-    (λ c. simp (c .tags-by .ensures, c .before .state-of .ensures)))
+    (λ c κs. search needs)
+    (λ c. simp (c .link-of .ensures, c .before .locked-of .ensures, c .before .before .registers-of .ensures)))

@@ -1,18 +1,26 @@
 -- `firmware::calls::mmc_parts_power_on` meets its contract: power-on, between a record taken in and told.
 -- Assumes nothing.
+use mathlib.Core.Path.{ap, _∙_}
 use borrow.Author.Needs.{needs}
-use Rattle.crossing.proofs.Crossing.{own-cid, own-csd, own-password}
-use Rattle.firmware.proofs.Kept.{powered-registers, powered-password}
+use denote.Ref.{now}
+use Rattle.card_record.specs.Power.{poweredOn}
+use Rattle.firmware.proofs.Told.{powered}
 use Rattle.firmware.proofs.calls.mmc_parts_power_on.Statement.{statement}
 use Rattle.firmware.proofs.calls.mmc_parts_power_on.Tie as tie
 
 returns : tie.Need-returns
 returns c =
-    let next = c .before .power-on .ensures in
-    let taken = c .before .before .card-of .ensures in (
-      simp (c .numbers-of .ensures .0, next, taken),
-      simp (next, taken, powered-registers, powered-password, own-cid, own-csd, own-password) at (c .numbers-of .ensures .1),
-    )
+    let at-power = c .before .before .before .before in
+    let a = at-power .before .before .before .before .before .before .args in
+    let told = c .tell-link-and-lock .ensures in
+    powered (now (a .numbers)) (now (a .cid)) (now (a .csd)) (now (a .password)) _ _
+    (at-power .power-on .ensures ∙ ap poweredOn (at-power .before .card-of .ensures)) (told .0) (told .1 .0) (told .1 .1)
 
 pub mmc-parts-power-on-spec : {M : Type 1} → statement M
-mmc-parts-power-on-spec = tie.close (tie.spec (λ c κs. search needs) (λ c κs. search needs) (λ c κs. search needs) returns)
+mmc-parts-power-on-spec =
+    tie.close
+    (tie.spec
+    (λ c κs. search needs)
+    (λ c κs. search needs)
+    (λ c κs. search needs)
+    returns)

@@ -44,7 +44,8 @@ use denote.Triple.Spec.{tripleOf}
 use denote.Triple.Clauses.{ensured, lasts}
 use denote.Triple.Walked.{Stays, stay-ref, stay-dropped, gave-slice, walkOf, ends-at}
 use denote.Exit.{yes}
-use Rattle.card.specs.Step.{stepOf, memoryOf, mapOf, outputOf}
+use Rattle.card.specs.Step.{stepOf, lentAfter, outputOf}
+use Rattle.store.specs.Lent.{lentOf, seen}
 use Rattle.card_record.specs.declared.Card.{Card}
 use Rattle.card.specs.declared.Call.{Call}
 use Rattle.card.specs.declared.Stepped.{Stepped}
@@ -209,19 +210,16 @@ module _ {M : Type 1} (𝓤 : URA M) (H : Heap 𝓤) (A : Atoms 𝓤) (W : Given
 
   -- what `step` is to answer, and what it is to leave in each lent slice
   abbrev after : Stepped
-  after = stepOf h k (i .now) (length (m .now)) (p .now) (length (u .now))
+  after = stepOf h k (i .now) (seen (lentOf (m .now) (p .now))) (length (u .now))
 
   abbrev Answers : Stepped → Type 0
   Answers r = r ≡ after
 
-  abbrev Memory′ : List ℕ → Type 0
-  Memory′ l = l ≡ memoryOf h k (i .now) (m .now) (p .now)
-
-  abbrev Map′ : List ℕ → Type 0
-  Map′ l = l ≡ mapOf h k (i .now) (length (m .now)) (p .now)
+  abbrev Lent′ : Answer → Type 0
+  Lent′ y = lentOf (mem-last y) (map-last y) ≡ lentAfter h k (i .now) (lentOf (m .now) (p .now))
 
   abbrev Out′ : List ℕ → Type 0
-  Out′ l = l ≡ outputOf h k (m .now) (p .now) (u .now)
+  Out′ l = l ≡ outputOf h k (lentOf (m .now) (p .now)) (u .now)
 
   -- a slice's last list is as long as the list passed
   abbrev Long : RefT (List ℕ) → List ℕ → Type 0
@@ -229,7 +227,7 @@ module _ {M : Type 1} (𝓤 : URA M) (H : Heap 𝓤) (A : Atoms 𝓤) (W : Given
 
   -- what is known once `step` has answered the machine value w: a Stepped, and the last list of each slice
   abbrev Told : Val → Answer → Type 0
-  Told w y = Is K.the-row (y .0) (w ∷ []) × (Answers (y .0) × (Memory′ (mem-last y) × (Map′ (map-last y) × (Out′ (out-last y) × (Long m (mem-last y) × (Long p (map-last y) × Long u (out-last y)))))))
+  Told w y = Is K.the-row (y .0) (w ∷ []) × (Answers (y .0) × (Lent′ y × (Out′ (out-last y) × (Long m (mem-last y) × (Long p (map-last y) × Long u (out-last y))))))
 
   abbrev left : Answer → Item 𝓤
   left y = kept ⊛ tokens ⊛ ‵ (finally u8 (u .name) (out-last y)) ⊛ ‵ (finally u8 (p .name) (map-last y)) ⊛ ‵ (finally u8 (m .name) (mem-last y))
@@ -238,8 +236,8 @@ module _ {M : Type 1} (𝓤 : URA M) (H : Heap 𝓤) (A : Atoms 𝓤) (W : Given
   answered w =
       qed W (raw (post w) ∷ kept ∷ []) ∵ updating ! $
       use1 W (later (some (λ (r : Stepped). (tokens ⊛ ‵ (K.the-row .own r (w ∷ []))) ⊛ raw (ensured 𝓤 H A step.ended (step.clauses 𝓤 H A at-mem run) κs′ given-step tt r)))) (id⊢ 𝓤 _) $ await ! tt $ pick ! (λ r.
-      split ! $ move ! (1 ∷ []) $ use1 W (some (λ (zs : Lasts). ‵ (lasts step.ended κs′ given-step zs) ⊛ raw (fact 𝓤 (Answers r)) ⊛ raw (fact 𝓤 (Memory′ (mem-last (r, zs)))) ⊛ raw (fact 𝓤 (Map′ (map-last (r, zs)))) ⊛ raw (fact 𝓤 (Out′ (out-last (r, zs)))))) (id⊢ 𝓤 _) $ pick ! (λ zs.
-      split ! $ move ! (1 ∷ []) $ split ! $ heard ! (Answers r) (λ ea. split ! $ heard ! (Memory′ (mem-last (r, zs))) (λ em. split ! $ heard ! (Map′ (map-last (r, zs))) (λ ep. heard ! (Out′ (out-last (r, zs))) (λ eo.
+      split ! $ move ! (1 ∷ []) $ use1 W (some (λ (zs : Lasts). ‵ (lasts step.ended κs′ given-step zs) ⊛ raw (fact 𝓤 (Answers r)) ⊛ raw (fact 𝓤 (Lent′ (r, zs))) ⊛ raw (fact 𝓤 (Out′ (out-last (r, zs)))))) (id⊢ 𝓤 _) $ pick ! (λ zs.
+      split ! $ move ! (1 ∷ []) $ split ! $ heard ! (Answers r) (λ ea. split ! $ heard ! (Lent′ (r, zs)) (λ el. heard ! (Out′ (out-last (r, zs))) (λ eo.
       -- what is said of each parameter: nothing of the first three, and the last list of each slice
       fsplit ! $ drop ! $ fsplit ! $ drop ! $ fsplit ! $ drop ! $
       fsplit ! $ fsplit ! $ move ! (1 ∷ []) $ feqL ! (λ lm. move ! (1 ∷ []) $
@@ -248,7 +246,7 @@ module _ {M : Type 1} (𝓤 : URA M) (H : Heap 𝓤) (A : Atoms 𝓤) (W : Given
       -- [out's last list; …; map's; mem's; the tokens and the result; what was kept]
       move ! (4 ∷ []) $ split ! $ move ! (1 ∷ []) $ peeks ! K.the-row (Is K.the-row) (shows 𝓤 H A K.the-row) r (w ∷ []) (λ is.
       -- [what the Stepped owns; the tokens; out's last list; …; map's; mem's; what was kept]
-      keep ! (6 ∷ 1 ∷ 2 ∷ 4 ∷ 5 ∷ []) $ now ! $ show ! (λ (y : Answer). guard 𝓤 (Told w y) (mean 𝓤 H A (left y))) (r, zs) $ check ! (is, (ea, (em, (ep, (eo, (lm, (lp, lo))))))) $ done !))))))))))
+      keep ! (6 ∷ 1 ∷ 2 ∷ 4 ∷ 5 ∷ []) $ now ! $ show ! (λ (y : Answer). guard 𝓤 (Told w y) (mean 𝓤 H A (left y))) (r, zs) $ check ! (is, (ea, (el, (eo, (lm, (lp, lo)))))) $ done !)))))))))
 
   -- the answer's machine value is the struct of the record's and the reply's
   made : (w : Val) (y : Answer) → Told w y
@@ -266,8 +264,8 @@ module _ {M : Type 1} (𝓤 : URA M) (H : Heap 𝓤) (A : Atoms 𝓤) (W : Given
       → ent 𝓤 (⋆ 𝓤 H A (‵ (fobs γ (T.the-row .coded .code (y .0 .card))) ∷ ‵ (fbor κ (Body (mem T.the-row) b o γ)) ∷ ‵ (flft κ q) ∷ tokens ∷ ‵ (finally u8 (u .name) (out-last y)) ∷ ‵ (finally u8 (p .name) (map-last y)) ∷ ‵ (finally u8 (m .name) (mem-last y)) ∷ [])) (Post (reply-val (y .0 .reply)))
   exits w y t =
       qed W (‵ (fobs γ (T.the-row .coded .code (y .0 .card))) ∷ ‵ (fbor κ (Body (mem T.the-row) b o γ)) ∷ ‵ (flft κ q) ∷ tokens ∷ ‵ (finally u8 (u .name) (out-last y)) ∷ ‵ (finally u8 (p .name) (map-last y)) ∷ ‵ (finally u8 (m .name) (mem-last y)) ∷ []) ∵
-      suffices ! _ (ends-at 𝓤 H A f.ended stayed (f.clauses 𝓤 H A at-mem run) W ((κs, qs, bounds, x, at), tt) (reply-val (y .0 .reply)) (y .0 .reply) (y .0 .card, (tt, (tt, (mem-last y, (map-last y, (out-last y, tt)))))) (tt, (tt, (tt, (t .1 .1 .1 .1 .1 .0, (t .1 .1 .1 .1 .1 .1 .0, (t .1 .1 .1 .1 .1 .1 .1, tt))))))) $
-      tells-all ! _ (both 𝓤 (y .0 .reply ≡ after .reply) _ (ap (λ (r : Stepped). r .reply) (t .1 .0)) (both 𝓤 (y .0 .card ≡ after .card) _ (ap (λ (r : Stepped). r .card) (t .1 .0)) (both 𝓤 (Memory′ (mem-last y)) _ (t .1 .1 .0) (both 𝓤 (Map′ (map-last y)) _ (t .1 .1 .1 .0) (factI 𝓤 (Out′ (out-last y)) (emp 𝓤) (t .1 .1 .1 .1 .0)))))) $
+      suffices ! _ (ends-at 𝓤 H A f.ended stayed (f.clauses 𝓤 H A at-mem run) W ((κs, qs, bounds, x, at), tt) (reply-val (y .0 .reply)) (y .0 .reply) (y .0 .card, (tt, (tt, (mem-last y, (map-last y, (out-last y, tt)))))) (tt, (tt, (tt, (t .1 .1 .1 .1 .0, (t .1 .1 .1 .1 .1 .0, (t .1 .1 .1 .1 .1 .1, tt))))))) $
+      tells-all ! _ (both 𝓤 (y .0 .reply ≡ after .reply) _ (ap (λ (r : Stepped). r .reply) (t .1 .0)) (both 𝓤 (y .0 .card ≡ after .card) _ (ap (λ (r : Stepped). r .card) (t .1 .0)) (both 𝓤 (Lent′ y) _ (t .1 .1 .0) (factI 𝓤 (Out′ (out-last y)) (emp 𝓤) (t .1 .1 .1 .0))))) $
       move ! (2 ∷ 3 ∷ []) $ join ! $ frame ! $ feqI ! (List Val) (vptr b o ∷ []) (vptr b o ∷ []) refl $ fjoin3 ! $
       -- [the record's borrow; out's last list; map's; mem's]
       nothing ! $ move ! (2 ∷ 0 ∷ []) $ fjoin ! $ move ! (2 ∷ 0 ∷ []) $ fjoin ! $ move ! (2 ∷ 0 ∷ []) $ fjoin ! $ nothing ! $ fjoin ! $ nothing ! $ fjoin ! $ move ! (1 ∷ 0 ∷ []) $ fjoin ! $

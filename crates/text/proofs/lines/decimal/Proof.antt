@@ -4,10 +4,9 @@ use mathlib.Core.Path.{_≡_, _∙_}
 use Prim.Native.Nat.{_-_}
 use native.Mathlib.Omega.{arith}
 use borrow.Author.Needs.{needs}
-use lib.ListN.{length, take, drop, length-drop}
+use lib.ListN.{length, drop, length-drop}
 use lib.Seq.{take-all}
 use Rattle.text.proofs.Writing.{put-as}
-use Rattle.text.specs.Text.{decimalOf}
 use Rattle.text.proofs.lines.decimal.Statement.{statement}
 use Rattle.text.proofs.lines.decimal.Tie as tie
 

@@ -1,0 +1,4 @@
+pub mod Lines
+pub mod Looks
+pub mod Wires
+pub mod Words

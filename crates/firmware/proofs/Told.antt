@@ -1,0 +1,87 @@
+-- The twelve numbers after a call that tells some of them.
+--   link-front, lock-front    those of the link, or of the link and the lock, at the front and the others as they were
+--   after-left, after-told    where the call's number leaves the record, and where it does not
+--   linked, registers-kept    numbers of which the link's are told stand for the card with that link, and so for the same registers
+--   powered                   power-on tells those of the link and the lock
+--   works, rests-told         work done alters the state's in prg and dis, and leaves it in every other state
+-- Assumes nothing.
+use mathlib.Core.Path.{_≡_, sym, ap, _∙_}
+use mathlib.Core.Bool.{Bool, true, false}
+use mathlib.Core.List.{List, _++_}
+use Prim.Native.Nat.{ℕ}
+use lib.Dec.{eqb}
+use lib.ListN.{drop, getD, set}
+use lib.Seq.{getD-drop, set-getD}
+use Rattle.base.specs.Choice.{pick}
+use Rattle.card_record.specs.Power.{poweredOn, worked}
+use Rattle.card_record.specs.Record.{withLink, withLock}
+use Rattle.card_record.specs.declared.Card.{Card}
+use Rattle.card_record.specs.declared.Link.{Link}
+use Rattle.crossing.proofs.Crossing.{eight, ten, link-told, link-and-lock-told}
+use Rattle.crossing.specs.Record.{linkOf, lockOf, registersOf, cardOf, linkNumbers, lockNumbers}
+use Rattle.lock.specs.declared.Lock.{Lock}
+use Rattle.firmware.specs.Answers.{leavesRecord, numbersAfter, fronted, workedNumber}
+use Rattle.firmware.proofs.Kept.{powered-password, powered-parts, worked-told}
+
+-- the registers that numbers stand for are the same where the link's are told
+pub registers-kept : (link : Link) (numbers cid csd : List ℕ) → registersOf (linkNumbers link ++ drop 8 numbers) cid csd ≡ registersOf numbers cid csd
+unfolding registersOf linkNumbers
+registers-kept link numbers cid csd = simp (getD-drop 8 numbers 2 0, getD-drop 8 numbers 3 0)
+
+-- numbers that are told at the front, and the others as they were
+pub link-front : (link : Link) (numbers : List ℕ) → linkNumbers link ++ drop 8 numbers ≡ fronted (linkNumbers link) numbers
+link-front link numbers = ap (λ (n : ℕ). linkNumbers link ++ drop n numbers) (sym (eight link))
+
+pub lock-front : (link : Link) (lock : Lock) (numbers : List ℕ)
+    → linkNumbers link ++ lockNumbers lock ++ drop 10 numbers ≡ fronted (linkNumbers link ++ lockNumbers lock) numbers
+lock-front link lock numbers = ap (λ (n : ℕ). linkNumbers link ++ lockNumbers lock ++ drop n numbers) (sym (ten link lock))
+
+pub after-left : (number : ℕ) (told before : List ℕ) → leavesRecord number ≡ true → before ≡ numbersAfter number told before
+after-left number told before leaves = sym (ap (λ (b : Bool). pick b before (fronted told before)) leaves)
+
+pub after-told : (number : ℕ) (told before : List ℕ) → leavesRecord number ≡ false → fronted told before ≡ numbersAfter number told before
+after-told number told before leaves = sym (ap (λ (b : Bool). pick b before (fronted told before)) leaves)
+
+module _ (numbers cid csd password : List ℕ) where
+  abbrev card : Card
+  card = cardOf numbers cid csd password
+
+  -- numbers of which the link's are told stand for the card with that link
+  pub linked : (link : Link) (after : List ℕ) → after ≡ linkNumbers link ++ drop 8 numbers → linkOf after ≡ link
+      → (after ≡ fronted (linkNumbers link) numbers) × (cardOf after cid csd password ≡ withLink card link)
+  linked link after told stands = (
+    told ∙ link-front link numbers,
+    ap (λ (l : List ℕ). cardOf l cid csd password) told ∙ link-told link numbers cid csd password (sym (ap linkOf told) ∙ stands),
+  )
+
+  -- ---- power-on and work done
+  pub powered : (next : Card) (after : List ℕ) → next ≡ poweredOn card
+      → after ≡ linkNumbers (next .link) ++ lockNumbers (next .lock) ++ drop 10 numbers → linkOf after ≡ next .link
+      → lockOf after (next .lock .password) ≡ next .lock
+      → (after ≡ fronted (linkNumbers (poweredOn card .link) ++ lockNumbers (poweredOn card .lock)) numbers)
+      × (cardOf after cid csd password ≡ poweredOn card)
+  powered next after same told link-stands lock-stands =
+      let kept : password ≡ next .lock .password = sym (ap (λ (c : Card). c .lock .password) same ∙ powered-password numbers cid csd password) in
+      let stands : cardOf after cid csd password ≡ withLink (withLock card (next .lock)) (next .link) =
+      ap (cardOf after cid csd) kept ∙ ap (λ (l : List ℕ). cardOf l cid csd (next .lock .password)) told
+      ∙ link-and-lock-told (next .link) (next .lock) numbers cid csd password (sym (ap linkOf told) ∙ link-stands)
+      (sym (ap (λ (l : List ℕ). lockOf l (next .lock .password)) told) ∙ lock-stands)
+      in (
+        told ∙ lock-front (next .link) (next .lock) numbers
+            ∙ ap (λ (c : Card). fronted (linkNumbers (c .link) ++ lockNumbers (c .lock)) numbers) same,
+        stands ∙ ap (λ (c : Card). withLink (withLock card (c .lock)) (c .link)) same ∙ powered-parts card,
+      )
+
+  -- the state's number is this one, where work done looks at it
+  pub works : (state : ℕ) → getD numbers 0 0 ≡ state
+      → (set numbers 0 (workedNumber state) ≡ set numbers 0 (workedNumber (getD numbers 0 0)))
+      × (cardOf (set numbers 0 (workedNumber state)) cid csd password ≡ worked card)
+  works state is =
+      let told = ap (λ (n : ℕ). set numbers 0 (workedNumber n)) (sym is) in
+      (told, ap (λ (l : List ℕ). cardOf l cid csd password) told ∙ worked-told numbers cid csd password)
+
+  pub rests-told : eqb (getD numbers 0 0) 11 ≡ false → eqb (getD numbers 0 0) 12 ≡ false
+      → (numbers ≡ set numbers 0 (workedNumber (getD numbers 0 0))) × (cardOf numbers cid csd password ≡ worked card)
+  rests-told not-prg not-dis =
+      let told : numbers ≡ set numbers 0 (workedNumber (getD numbers 0 0)) = sym (simp (not-prg, not-dis) (set-getD numbers 0 0)) in
+      (told, ap (λ (l : List ℕ). cardOf l cid csd password) told ∙ worked-told numbers cid csd password)
