@@ -1,4 +1,4 @@
--- A block in and a block out keep a card made, by cases on what can become of them (crates/card/proofs/Outcomes.antt).
+-- A block in and a block out keep a card made, by cases on what can become of them (crates/card_blocks/proofs/Outcomes.antt).
 --   block-in-made, block-out-made
 -- Assumes nothing.
 use mathlib.Core.Path.{_≡_, refl, subst}
