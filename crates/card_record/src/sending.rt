@@ -26,15 +26,19 @@ fn lay(bytes: &[u8], out: &mut [u8]) -> Written
     Written::Bytes(n)
 }
 
-// R3 of SPI: that of MMC mode holds the OCR behind its first byte.
+// R3 of SPI: R1's byte, and the OCR as R3 of MMC mode has it.
 fn write_spi_r3(first: u8, ocr: u32, out: &mut [u8]) -> Written
     ensures answer { λ r. ⌜ r ≡ fits (spiR3Bytes first ocr) (now (out .entry)) ⌝ }
     ensures output { λ r. ⌜ now (out .exit) ≡ laid r (spiR3Bytes first ocr) (now (out .entry)) ⌝ }
 {
-    let mut bytes = [0u8; 6];
-    wire::write_r3(R3 { ocr }, &mut bytes);
-    bytes[0] = first;
-    lay(&bytes[0..5], out)
+    let bytes = [
+        first,
+        (128 + ocr / 16777216 % 128) as u8,
+        (ocr / 65536 % 256) as u8,
+        (ocr / 256 % 256) as u8,
+        (ocr % 256) as u8,
+    ];
+    lay(&bytes, out)
 }
 
 // What a card sends, written as the writers of `wire` write it.
