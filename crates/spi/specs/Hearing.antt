@@ -52,12 +52,16 @@ movedIn mode link met index argument (To column) = takenIn mode link met index a
 unfoldable pub spiHeard : Mode → Link → Met → ℕ → ℕ → Heard
 spiHeard mode link met index argument = movedIn mode link met index argument (moveOf (rowOf index) (columnOf (link .state)))
 
--- a command at a card whose select line is low (`selected`) or high. In SPI "a frame with the line high is ignored"; in MMC mode the line is
--- read for CMD0 alone
+-- whether a card takes a command as SPI has it, its select line being low (`selected`) or high: one in SPI does, and "a card enters SPI when
+-- CMD0 comes with its select line low". In MMC mode the line is read for CMD0 alone
+abbrev pub asSpi : Mode → Bool → ℕ → Bool
+asSpi mode selected index = selected && (mode .spi || eqb index 0)
+
+-- a command at a card: as SPI has it; in SPI "a frame with the line high is ignored"; and else as MMC mode has it
 unfoldable pub heardOf : Mode → Bool → Link → Met → ℕ → ℕ → Heard
 heardOf mode selected link met index argument =
-    pick (mode .spi) (pick selected (spiHeard mode link met index argument) (unheard mode link))
-    (pick (selected && eqb index 0) (spiHeard mode link met index argument) (heardInMmc mode (commandOf link met index argument)))
+    pick (asSpi mode selected index) (spiHeard mode link met index argument)
+    (pick (mode .spi) (unheard mode link) (heardInMmc mode (commandOf link met index argument)))
 
 -- a frame that is refused 3: in MMC mode "3 sets bit 23 of the card .. unless Inactive"; in SPI "beside number 3, a wrong CRC7" is answered
 -- by R1, where the line is low and the card is not Inactive

@@ -18,7 +18,7 @@ use status::ErrorBit;
 use status::Errors;
 ghost use mathlib.Core.Path.{_≡_};
 ghost use Rattle.spi.specs.Answers.{responseOf, idleIn, sentIn, leftIn, answeredIn, faulted};
-ghost use Rattle.spi.specs.Hearing.{unheard, heardInMmc, modeAfter, takenIn, movedIn, spiHeard, heardOf, crcPasses, damagedOf};
+ghost use Rattle.spi.specs.Hearing.{unheard, heardInMmc, modeAfter, takenIn, spiHeard, asSpi, heardOf, crcPasses, damagedOf};
 
 // What a command leaves: the mode, the link, what is sent, and what is to change in what is lent.
 pub struct Heard {
@@ -182,20 +182,28 @@ fn in_spi(mode: Mode, link: Link, met: Met, index: u8, argument: u32) -> Heard
     }
 }
 
+// Whether a card takes a command as SPI has it: with its select line low, in SPI or to enter it.
+fn as_spi(mode: Mode, selected: bool, index: u8) -> bool
+    ensures { λ r. ⌜ r ≡ asSpi mode selected index ⌝ }
+{
+    if !selected {
+        return false;
+    }
+    if mode.spi {
+        return true;
+    }
+    index == 0
+}
+
 // A command at a card whose select line is low (`selected`) or high.
 pub fn hear(mode: Mode, selected: bool, link: Link, met: Met, index: u8, argument: u32) -> Heard
     ensures answer { λ r. ⌜ r ≡ heardOf mode selected link met index argument ⌝ }
 {
-    if mode.spi {
-        if !selected {
-            return unheard(mode, link);
-        }
+    if as_spi(mode, selected, index) {
         return in_spi(mode, link, met, index, argument);
     }
-    if selected {
-        if index == 0 {
-            return in_spi(mode, link, met, index, argument);
-        }
+    if mode.spi {
+        return unheard(mode, link);
     }
     in_mmc(mode, command::command(link, met, index, argument))
 }

@@ -21,8 +21,7 @@ returns c =
     let k = c .before .before in
     let a = k .before .before .before .before .args in
     let out = now (a .out) in
-    let same = in-bytes (a .first) (a .ocr) in
-    (
+    let same = in-bytes (a .first) (a .ocr) in (
       k .lay .ensures .0 ∙ ap (λ (l : List ℕ). fits l out) same,
       k .lay .ensures .1 ∙ ap (λ (l : List ℕ). laid (k .lay .result) l out) same,
     )
