@@ -96,4 +96,7 @@ module _ (bus : Bus) (place : ℕ) (none : Card) (spi : getD (bus .cards) place 
 
   pub spi-kept : (frame : List ℕ) → Kept (busFrame bus frame)
   unfolding busFrame
-  spi-kept frame = guarded Kept (leb 1 (countOf bus)) {refusal = refusedOn bus (by 13)} {rest = framedOn bus (framingOf frame)} (λ t. refl) (λ t. framed-kept (framingOf frame))
+  spi-kept frame =
+      guarded Kept (leb 1 (countOf bus)) {refusal = refusedOn bus (by 13)} {rest = framedOn bus (framingOf frame)}
+      (λ t. refl)
+      (λ t. framed-kept (framingOf frame))
