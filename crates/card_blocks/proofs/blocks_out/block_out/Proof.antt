@@ -31,6 +31,7 @@ returns c =
     )
 
 returns-2 : tie.Need-returns-2
+unfolding sentOut
 returns-2 c =
     let t = c .before .before in
     let l = t .before .before in
