@@ -238,12 +238,12 @@ module _ (c : Meeting) where
             (
               read-cid,
               (
-            status,
-            (
-              lengthened,
-              (read-one, (read-many, (write-one, (write-many, (read-protection, (sector-start, (sector-end, (group-start, (group-end, (erase, (request, tt))))))))))),
-            ),
-          ),
+                status,
+                (
+                  lengthened,
+                  (read-one, (read-many, (write-one, (write-many, (read-protection, (sector-start, (sector-end, (group-start, (group-end, (erase, (request, tt))))))))))),
+                ),
+              ),
             ),
           ),
         ),
