@@ -2,6 +2,7 @@ pub mod Acted
 pub mod Blocks
 pub mod Commands
 pub mod Faults
+pub mod InSpi
 pub mod InRange
 pub mod Kept
 pub mod Lent
