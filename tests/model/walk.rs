@@ -5,7 +5,7 @@ use crate::bench::Bench;
 use crate::card::*;
 use crate::dice::Dice;
 use crate::script::Record;
-use crate::wire;
+use crate::spi_walk::{Given, Habits};
 
 pub struct Walk {
     pub dice: Dice,
@@ -13,8 +13,8 @@ pub struct Walk {
     pub script: Vec<u8>,
     /// How many records may still be written.
     pub left: usize,
-    /// The commands that were given so far, unlocked and locked, by state: a bit for each index.
-    pub given: [[u64; 10]; 2],
+    pub given: Given,
+    pub habits: Habits,
 }
 
 impl Walk {
@@ -27,21 +27,8 @@ impl Walk {
     }
 
     pub fn command(&mut self, index: u8, argument: u32) {
-        *self.given_here() |= 1 << index;
-        self.say(Record::Frame(wire::command(index, argument).to_vec()));
-    }
-
-    /// The commands that were given to the card in its state.
-    fn given_here(&mut self) -> &mut u64 {
-        let Card { locked, state, .. } = self.bench.card;
-        &mut self.given[locked as usize][state.number() as usize]
-    }
-
-    /// An index that was not yet given in the card's state, if there is one.
-    pub fn new_index(&mut self) -> u8 {
-        let any = self.dice.below(64);
-        let given = *self.given_here();
-        (any..any + 64).map(|index| index % 64).find(|index| given >> index & 1 == 0).unwrap_or(any) as u8
+        let select = self.line();
+        self.frame(select, index, argument);
     }
 
     pub fn card(&self) -> &Card {
@@ -60,10 +47,14 @@ impl Walk {
 
     /// One step, or a few that belong together.
     pub fn step(&mut self) {
+        if self.changes_mode() {
+            return;
+        }
         match self.dice.below(100) {
             0..=4 => self.damaged_frame(),
             5..=11 => self.any_command(),
-            12..=17 => self.say(Record::ShowCard),
+            12 => self.say(Record::ShowMode),
+            13..=17 => self.say(Record::ShowCard),
             18..=19 => self.show_memory(),
             20 => self.lend_wrong(),
             21 => self.poke_wrong(),
@@ -95,6 +86,9 @@ impl Walk {
     /// A likely next step of a card in its state.
     fn lead_on(&mut self) {
         let state = self.card().state;
+        if self.is_in_spi() && self.dice.percent(30) {
+            return self.step_of_spi();
+        }
         match state {
             // These states are left at the first right command, so the walk lingers in them.
             State::Idle | State::Ready | State::Ident | State::Dis if self.dice.percent(40) => self.linger(),
@@ -131,7 +125,7 @@ impl Walk {
         }
     }
 
-    fn linger(&mut self) {
+    pub fn linger(&mut self) {
         match self.dice.below(10) {
             0 => self.damaged_frame(),
             1 => self.stray_block(),
