@@ -85,12 +85,14 @@ impl Walk {
 
     /// A likely next step of a card in its state.
     fn lead_on(&mut self) {
-        let state = self.card().state;
         if self.is_in_spi() && self.dice.percent(30) {
             return self.step_of_spi();
         }
+        let Card { state, locked, .. } = *self.card();
         match state {
-            // These states are left at the first right command, so the walk lingers in them.
+            // These states are left at the first right command, so the walk lingers in them, above all
+            // with a locked card, which seldom comes far.
+            State::Dis if locked && self.dice.percent(50) => self.linger(),
             State::Idle | State::Ready | State::Ident | State::Dis if self.dice.percent(40) => self.linger(),
             State::Stby | State::Prg if self.dice.percent(25) => self.linger(),
             State::Idle => self.identify(),
@@ -107,7 +109,7 @@ impl Walk {
                 3 if self.dice.percent(20) => self.command(15, self.own()),
                 _ => self.command(7, self.own()),
             },
-            State::Tran if self.card().locked => self.lead_on_locked(),
+            State::Tran if locked => self.lead_on_locked(),
             State::Tran => self.lead_on_in_tran(),
             State::Data(sending) => self.lead_on_in_data(sending),
             State::Rcv(awaited) => self.lead_on_in_rcv(awaited),
