@@ -55,7 +55,7 @@ impl Bench {
             }
             Record::BlockIn(block) => {
                 let result = self.lending(|card, memory, map| card.block_in(block, memory, map));
-                // "A data response follows on the line".
+                // "In SPI a data response follows on the line".
                 let response = self.card.data_response(result);
                 plain(result, "taken") + &response.map_or(String::new(), |byte| format!(" response {byte:02X}"))
             }
