@@ -32,9 +32,10 @@ impl Walk {
             2 | 3 if self.card().locked => self.linger(),
             _ => {
                 let payload = if awaited == Awaited::Lock { self.lock_request() } else { self.simple_payload(512) };
-                let block = self.card().framed(&payload);
-                let sent = if self.is_in_spi() { self.perhaps_damaged_in_spi(block) } else { self.perhaps_damaged(block) };
-                self.say(Record::BlockIn(sent));
+                let whole = self.card().framed(&payload);
+                let in_spi = self.is_in_spi();
+                let block = if in_spi { self.perhaps_damaged_in_spi(whole) } else { self.perhaps_damaged(whole) };
+                self.say(Record::BlockIn(block));
             }
         }
     }

@@ -102,26 +102,12 @@ impl Walk {
                 let rest = self.dice.word() & 0xFFFF;
                 self.command(3, address | rest);
             }
-            State::Stby => match self.dice.below(14) {
-                0 => self.command(9, self.own()),
-                1 => self.command(10, self.own()),
-                2 => self.command(13, self.own()),
-                3 if self.dice.percent(20) => self.command(15, self.own()),
-                _ => self.command(7, self.own()),
-            },
+            State::Stby => self.lead_on_in_stby(),
             State::Tran if locked => self.lead_on_locked(),
             State::Tran => self.lead_on_in_tran(),
             State::Data(sending) => self.lead_on_in_data(sending),
             State::Rcv(awaited) => self.lead_on_in_rcv(awaited),
-            State::Prg | State::Dis => match self.dice.below(8) {
-                0 => self.command(13, self.own()),
-                1 => self.command(7, self.own()),
-                2 | 3 => {
-                    let other = self.other();
-                    self.command(7, other);
-                }
-                _ => self.say(Record::WorkDone),
-            },
+            State::Prg | State::Dis => self.lead_on_at_work(),
             State::Ina if self.dice.percent(75) => self.linger(),
             State::Ina => self.say(Record::PowerOn),
         }
@@ -145,6 +131,28 @@ impl Walk {
             2 => self.command(1, high | ocr & ocr.wrapping_neg()),
             3 => self.command(1, high | 0xFF_FFFF),
             _ => self.command(1, high | ocr & 0xFF_FFFF),
+        }
+    }
+
+    fn lead_on_in_stby(&mut self) {
+        match self.dice.below(14) {
+            0 => self.command(9, self.own()),
+            1 => self.command(10, self.own()),
+            2 => self.command(13, self.own()),
+            3 if self.dice.percent(20) => self.command(15, self.own()),
+            _ => self.command(7, self.own()),
+        }
+    }
+
+    fn lead_on_at_work(&mut self) {
+        match self.dice.below(8) {
+            0 => self.command(13, self.own()),
+            1 => self.command(7, self.own()),
+            2 | 3 => {
+                let other = self.other();
+                self.command(7, other);
+            }
+            _ => self.say(Record::WorkDone),
         }
     }
 
