@@ -50,6 +50,8 @@ pub fn erased(tags: Tags, before: &Card, after: &Card, map: &[u8]) -> String {
 impl Cover {
     pub fn watch_card(&mut self, script: &[u8]) {
         self.failed = None;
+        self.outlived.clear();
+        self.shown_beside_3 = false;
         let mut script = Script(script);
         let mut bench = None;
         while let Some(next) = script.next(bench.is_none()) {

@@ -14,6 +14,10 @@ pub struct Cover {
     pub records: usize,
     /// The last command, if it was a tag command that failed where a range stood.
     pub failed: Option<String>,
+    /// What the tags of a card in SPI have outlived so far.
+    pub outlived: BTreeSet<&'static str>,
+    /// Whether the last record was a frame in SPI whose R1, beside number 3, showed a bit of a block.
+    pub shown_beside_3: bool,
 }
 
 /// A record of `cardline` that was played: its line, the card before and after it, and the map before.

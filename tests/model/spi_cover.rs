@@ -4,6 +4,7 @@ use crate::card::*;
 use crate::card_cover::{erased, refusal, told, work};
 use crate::card_points::name;
 use crate::cover::{Cover, Seen};
+use crate::erase::Tags;
 use crate::script::Record;
 use crate::spi_points::R2_ONLY;
 use crate::wire::{self, Command};
@@ -37,6 +38,7 @@ impl Cover {
     pub fn watch_in_spi(&mut self, seen: &Seen) {
         let Seen { record, before, after, line, .. } = *seen;
         let state = name(before.state);
+        self.watch_shown_beside_3(seen);
         match record {
             Record::Frame(select, frame) => self.watch_frame_in_spi(*select, frame, seen),
             Record::BlockIn(block) => self.watch_block_in_of_spi(block, seen),
@@ -49,6 +51,9 @@ impl Cover {
             }
             Record::ShowMode => self.watch_mode(line),
             _ => (),
+        }
+        if after.tags != before.tags {
+            self.outlived.clear();
         }
     }
 
@@ -69,7 +74,7 @@ impl Cover {
             }
         } else if select == Select::High {
             self.met(format!("spi-high {state} CMD{}", frame[0] & 0x3F));
-            self.met_if(before.tags.is_some(), "spi-tags kept with the line high");
+            self.watch_tags_kept("a frame with the line high", before);
         } else if let Ok((command, crc7_is_right)) = wire::unframe(frame) {
             self.watch_command_in_spi(command, crc7_is_right, seen);
         }
@@ -82,9 +87,24 @@ impl Cover {
         let who = if index == 0 { "CMD0" } else { "other" };
         let checking = if before.checks_crc() { "on" } else { "off" };
         self.met(format!("spi-crc {who} damaged, checking {checking}, {}", word(select)));
-        let is_low = select == Select::Low;
-        self.met_if(is_low && before.errors != 0, "spi-crc 3 beside other bits");
-        self.met_if(is_low && before.tags.is_some(), "spi-tags kept by a wrong CRC7");
+        if select == Select::Low {
+            self.watch_tags_kept("a wrong CRC7", before);
+            self.shown_beside_3 = before.errors & BLOCK_LEN_ERROR != 0;
+        }
+    }
+
+    /// Whether a bit that was shown beside number 3 is gone, as the next answer or the record tells.
+    fn watch_shown_beside_3(&mut self, seen: &Seen) {
+        let tells = seen.line.contains(" line ") || matches!(seen.record, Record::ShowCard);
+        self.met_if(self.shown_beside_3 && tells, "spi-crc 3 beside bit 29, which is then gone");
+        self.shown_beside_3 = false;
+    }
+
+    /// A range of tags that something left alone: CMD38 tells whether it did.
+    fn watch_tags_kept(&mut self, by: &'static str, before: &Card) {
+        if matches!(before.tags, Some(Tags { end: Some(_), .. })) {
+            self.outlived.insert(by);
+        }
     }
 
     /// A command that a card in SPI hears.
@@ -96,15 +116,18 @@ impl Cover {
         self.met_if(before.checks_crc(), &format!("spi-checked CMD{index}"));
         self.met_if(!crc7_is_right, &format!("spi-unchecked CMD{index}"));
         self.met(format!("spi-move CMD{index} {from} to {to}"));
-        let kept_tags = before.tags.is_some() && after.tags == before.tags;
-        self.met_if(kept_tags && index == 13, "spi-tags kept by CMD13");
-        self.met_if(kept_tags && !matches!(index, 13 | 32..=38), "spi-tags kept by an illegal command");
+        if after.tags == before.tags && !matches!(index, 32 | 33 | 35 | 36) {
+            self.watch_tags_kept(if index == 13 { "CMD13" } else { "an illegal command" }, before);
+        }
         match index {
             0 => self.watch_reset_in_spi(before),
             59 => self.watch_switch(command.argument, before, after),
             38 if to == "prg" && from != "prg" => {
                 let tags = before.tags.expect("CMD38 needs both");
                 self.met(format!("spi-{}", erased(tags, before, after, map)));
+                for what in self.outlived.clone() {
+                    self.met(format!("spi-tags erase what outlived {what}"));
+                }
             }
             _ => (),
         }

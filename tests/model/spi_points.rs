@@ -126,11 +126,11 @@ const NAMED: &str = "
     spi-crc CMD0 damaged, checking off, high
     spi-crc CMD0 damaged, checking on, low
     spi-crc other damaged, checking on, high
-    spi-crc 3 beside other bits
-    spi-tags kept by CMD13
-    spi-tags kept by an illegal command
-    spi-tags kept by a wrong CRC7
-    spi-tags kept with the line high
+    spi-crc 3 beside bit 29, which is then gone
+    spi-tags erase what outlived CMD13
+    spi-tags erase what outlived an illegal command
+    spi-tags erase what outlived a wrong CRC7
+    spi-tags erase what outlived a frame with the line high
     spi-erase by sector, all filled
     spi-erase by sector, all spared
     spi-erase by group, all filled

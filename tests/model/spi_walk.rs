@@ -82,7 +82,7 @@ impl Walk {
     /// A step that MMC mode has not. Most commands are illegal in SPI and leave the card in its state,
     /// so it is given many.
     pub fn step_of_spi(&mut self) {
-        match self.dice.below(13) {
+        match self.dice.below(14) {
             0 => self.say(Record::ShowMode),
             1 | 2 => self.switch_checking(),
             3 => self.command(58, 0),
@@ -91,8 +91,30 @@ impl Walk {
             6 | 7 => self.command(13, 0),
             8 => self.ignored(),
             9 => self.damaged_frame(),
+            10 => self.damage_after_a_block(),
             _ => (0..12).for_each(|_| self.any_command()),
         }
+    }
+
+    /// Something that leaves tags alone.
+    pub fn leave_alone(&mut self) {
+        let argument = self.address();
+        let illegal = self.dice.pick(&[1, 2, 3, 4, 7, 11, 12, 15, 18, 25]);
+        match self.dice.below(4) {
+            0 => self.damaged_frame(),
+            1 => self.frame(Select::High, 16, argument),
+            2 => self.frame(Select::Low, 13, argument),
+            _ => self.frame(Select::Low, illegal, argument),
+        }
+    }
+
+    /// A bit that waits from a block, and then a frame whose CRC7 is wrong: its answer shows both.
+    fn damage_after_a_block(&mut self) {
+        self.frame(Select::Low, 59, 1);
+        self.frame(Select::Low, 42, 0);
+        self.say(Record::BlockIn(Vec::new()));
+        self.damaged_frame();
+        self.say(Record::ShowCard);
     }
 
     /// CMD59, whose argument has one bit that is read.

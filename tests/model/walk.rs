@@ -251,6 +251,7 @@ impl Walk {
             match self.dice.below(50) {
                 0 => self.restart(),
                 1..=4 => self.step(),
+                5..=14 if self.is_in_spi() => self.leave_alone(),
                 _ => (),
             }
         }
