@@ -3,8 +3,8 @@
 --   unlaid        one that does not fit leaves the output as it was
 --   laid-whole    one that fits stands at the front
 --   sent-short, sent-long    and is told so
---   started       a block laid behind a first byte, and then the start byte stored there, is the block with its start byte
---   unstarted     where none was laid behind it, none is laid with its start byte
+--   start-stored  a block laid behind a first byte, and then the start byte stored there, is the block with its start byte
+--   start-left    where none was laid behind it, none is laid with its start byte
 -- Assumes nothing.
 use mathlib.Core.Path.{_≡_, refl, sym, ap, _∙_}
 use mathlib.Core.Bool.{Bool, true, false}
@@ -48,19 +48,18 @@ pub sent-long : (block : List ℕ) (room : ℕ) → 1 ≤ length block → lengt
 sent-long [] room some h = absurd (omega arith)
 sent-long (b ∷ bs) room some h = le-leb (length (b ∷ bs)) room h
 
--- o has a first byte, and behind it the block is laid
-pub started : (block o : List ℕ) → 1 ≤ length o → sentWhole block (length (drop 1 o)) ≡ true
+pub start-stored : (block o : List ℕ) → 1 ≤ length o → sentWhole block (length (drop 1 o)) ≡ true
     → set (take 1 o ++ blockLaid false block (drop 1 o)) 0 startByte ≡ blockLaid true block o
-started block [] some e = absurd (omega arith)
-started [] (x ∷ o) some e = never e
-started (b ∷ bs) (x ∷ o) some e =
+start-stored block [] some e = absurd (omega arith)
+start-stored [] (x ∷ o) some e = never e
+start-stored (b ∷ bs) (x ∷ o) some e =
     let h : length (b ∷ bs) ≤ length o = leb-true (length (b ∷ bs)) (length o) e in
     ap (λ (l : List ℕ). startByte ∷ l) (front (b ∷ bs) o h) ∙ sym (front (startByte ∷ b ∷ bs) (x ∷ o) (omega arith))
 
-pub unstarted : (block o : List ℕ) → 1 ≤ length o → sentWhole block (length (drop 1 o)) ≡ false
+pub start-left : (block o : List ℕ) → 1 ≤ length o → sentWhole block (length (drop 1 o)) ≡ false
     → take 1 o ++ blockLaid false block (drop 1 o) ≡ blockLaid true block o
-unstarted block [] some e = absurd (omega arith)
-unstarted [] (x ∷ o) some e = refl
-unstarted (b ∷ bs) (x ∷ o) some e =
+start-left block [] some e = absurd (omega arith)
+start-left [] (x ∷ o) some e = refl
+start-left (b ∷ bs) (x ∷ o) some e =
     let h : length o < length (b ∷ bs) = leb-false (length (b ∷ bs)) (length o) e in
     ap (λ (l : List ℕ). x ∷ l) (left (b ∷ bs) o h) ∙ sym (left (startByte ∷ b ∷ bs) (x ∷ o) (omega arith))

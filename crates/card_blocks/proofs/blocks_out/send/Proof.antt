@@ -2,7 +2,7 @@
 -- Assumes nothing.
 use mathlib.Core.Path.{_≡_, sym, ap, ap₂, _∙_}
 use mathlib.Core.Bool.{Bool, true, false}
-use mathlib.Core.List.{List, [], _++_, append-nil}
+use mathlib.Core.List.{List, _++_, append-nil}
 use Prim.Native.Nat.{ℕ, _-_, _≤_}
 use native.Mathlib.Omega.{arith}
 use borrow.Author.Needs.{needs}
@@ -13,7 +13,7 @@ use lib.Seq.{take-all}
 use Rattle.store.specs.Lent.{lentOf}
 use Rattle.card_blocks.specs.BlockOut.{blockFor, blockLaid, sentWhole, sentOut}
 use Rattle.card_blocks.specs.Framing.{startByte}
-use Rattle.card_blocks.proofs.Laying.{unlaid, started, unstarted}
+use Rattle.card_blocks.proofs.Laying.{unlaid, start-stored, start-left}
 use Rattle.card_blocks.proofs.blocks_out.send.Statement.{statement}
 use Rattle.card_blocks.proofs.blocks_out.send.Tie as tie
 
@@ -33,10 +33,10 @@ module _ (block o last : List ℕ) (told : Bool) (some : 1 ≤ length o) (et : t
       ∙ ap (λ (l : List ℕ). take 1 o ++ l) (append-nil (blockLaid false block (drop 1 o)))
 
   sent : told ≡ true → set (take 1 o ++ (last ++ drop (length o - 1) (drop 1 o))) 0 startByte ≡ blockLaid true block o
-  sent t = ap (λ (l : List ℕ). set l 0 startByte) back ∙ started block o some (whole ∙ t)
+  sent t = ap (λ (l : List ℕ). set l 0 startByte) back ∙ start-stored block o some (whole ∙ t)
 
   unsent : told ≡ false → take 1 o ++ (last ++ drop (length o - 1) (drop 1 o)) ≡ blockLaid true block o
-  unsent t = back ∙ unstarted block o some (whole ∙ t)
+  unsent t = back ∙ start-left block o some (whole ∙ t)
 
 returns : tie.Need-returns
 unfolding sentOut

@@ -48,7 +48,7 @@ module _ (m o : List ℕ) (at n : ℕ) where
   whole : inside m at n ≡ true → length (partOf m at n) ≡ n
   whole t = length-take-le n (drop at m) (omega (arith, length-drop at m, leb-true (at + n) (length m) t))
 
-  -- n bytes with their CRC16 are the block
+  -- what is told and what is left are what they must be
   abbrev Sends : Bool → List ℕ → Type 0
   Sends told l = (told ≡ sentWhole (partBlock m at n) (length o)) × (l ≡ blockLaid false (partBlock m at n) o)
 

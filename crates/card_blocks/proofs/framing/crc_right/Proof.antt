@@ -4,18 +4,18 @@ use mathlib.Core.Path.{_≡_, refl, sym, ap, _∙_}
 use mathlib.Core.Bool.{Bool, true, false, not, _&&_, _||_}
 use mathlib.Core.List.{List}
 use mathlib.Core.Logic.{⊎-elim}
-use Prim.Native.Nat.{ℕ, _+_, _-_, _≤_}
+use Prim.Native.Nat.{ℕ, _-_, _≤_}
 use native.Mathlib.Omega.{arith}
 use borrow.Author.Needs.{needs}
-use borrow.Author.Tests.{le-leb, not-false}
+use borrow.Author.Tests.{le-leb, eq-eqb, not-false}
 use denote.Ref.{now}
-use lib.Dec.{eqb, leb}
+use lib.Dec.{eqb}
 use lib.ListN.{length}
-use Rattle.base.proofs.Cases.{passed, cases}
-use Rattle.base.specs.Refusals.{by}
+use Rattle.base.proofs.Cases.{cases}
 use Rattle.base.specs.declared.Refusal.{Refusal}
 use Rattle.crc.specs.Crc.{crc16}
-use Rattle.wire.specs.Blocks.{longestBlock, crcIn, payloadOf, checkedOf}
+use Rattle.wire.proofs.BlockTheorems.{good}
+use Rattle.wire.specs.Blocks.{crcIn, payloadOf, checkedOf}
 use Rattle.wire.specs.declared.Checked.{Checked}
 use Rattle.wire.specs.declared.Checked.the-variants.{Payload, Refused}
 use Rattle.card_blocks.proofs.framing.crc_right.Statement.{statement}
@@ -26,11 +26,7 @@ no-refusal r n e = let z : _≡_ {A = ℕ} 0 1 = cc in omega arith
 
 -- a block that checks has the right CRC16
 right : (b : List ℕ) {n : ℕ} → checkedOf b ≡ Payload n → eqb (crcIn b) (crc16 (payloadOf b)) ≡ true
-unfolding checkedOf
-right b {n} e =
-    let t0 = passed (leb 3 (length b)) (Refused (by 5)) _ (Payload n) (no-refusal (by 5) n) e in
-    let t1 = passed (leb (length b) (longestBlock + 2)) (Refused (by 5)) _ (Payload n) (no-refusal (by 5) n) (t0 .1) in
-    passed (eqb (crcIn b) (crc16 (payloadOf b))) (Refused (by 17)) _ (Payload n) (no-refusal (by 17) n) (t1 .1) .0
+right b {n} e = eq-eqb (crcIn b) (crc16 (payloadOf b)) (good b n e .crc)
 
 -- one of a block's length that does not check has a wrong one: it is refused by 17 alone
 wrong : (b : List ℕ) {r : Refusal} → 3 ≤ length b → length b ≤ 2050 → checkedOf b ≡ Refused r → eqb (crcIn b) (crc16 (payloadOf b)) ≡ false

@@ -1,6 +1,6 @@
 -- `card_blocks::framing::started` meets its contract: in SPI the first byte decides, and a block of no byte has none.
 -- Assumes nothing.
-use mathlib.Core.Path.{_≡_, refl, sym}
+use mathlib.Core.Path.{_≡_, refl}
 use mathlib.Core.Bool.{false}
 use mathlib.Core.List.{List, [], _∷_}
 use Prim.Native.Nat.{ℕ, _<_}

@@ -29,7 +29,8 @@ returns-3 : tie.Need-returns-3
 returns-3 c =
     let f = c .before .before in
     let a = f .before .args in
-    simp (not-false (a .spi) (f .if1 .left)) (take-all (length (now (a .block)) - 1) (drop 1 (now (a .block))) (omega (arith, length-drop 1 (now (a .block)))))
+    let b = now (a .block) in
+    simp (not-false (a .spi) (f .if1 .left)) (take-all (length b - 1) (drop 1 b) (omega (arith, length-drop 1 b)))
 
 pub unstarted-spec : {M : Type 1} → statement M
 unstarted-spec = tie.close (tie.spec returns returns-2 (λ c. search needs) (λ c. search needs) (λ c. search needs) returns-3)
