@@ -8,7 +8,7 @@
 --   inactive-as-idle   Inactive told with the number of Idle
 --   unlocked-as-1      an unlocked record told as locked
 --   mode-lost          a card in SPI told as one in MMC mode
---   spi-by-2           SPI read from any number but 0, where bit 0 says it
+--   spi-by-6           SPI read from any number but 0, where bit 0 says it
 --   checks-by-1        checking read from any number but 0, where bit 1 says it
 -- Assumes nothing.
 use mathlib.Core.Path.{_≡_, sym}
@@ -63,9 +63,9 @@ mode-lost : getD (numbersOf (withMode refusedMake (record { spi = true; checks =
 unfolding numbersOf linkNumbers modeNumbers
 mode-lost e = omega arith
 
-spi-by-2 : odd .mode .spi ≡ true → ⊥
+spi-by-6 : odd .mode .spi ≡ true → ⊥
 unfolding cardOf modeOf
-spi-by-2 e = never e
+spi-by-6 e = never e
 
 checks-by-1 : modeOf (replicate 13 1) .checks ≡ true → ⊥
 unfolding modeOf
