@@ -3,9 +3,10 @@
 --   leading       the table of moves of SPI is `Leading`
 --   left-waits    the error bits that an answer in SPI leaves can wait there
 --   heard-made    after a command of any index and argument, whatever the line, in MMC mode and in SPI
+--   damaged-heard-made   and after a frame whose CRC7 is wrong and counts
 -- Assumes nothing.
 use mathlib.Core.Path.{_≡_, refl, sym, ap, ap₂, _∙_, subst, subst⁻¹}
-use mathlib.Core.Bool.{Bool, true, false, _||_}
+use mathlib.Core.Bool.{Bool, true, false, not, _&&_, _||_}
 use mathlib.Core.List.{List, [], _∷_}
 use Prim.Native.Nat.{ℕ, _^_}
 use borrow.Author.Tests.{eqb-true}
@@ -16,7 +17,7 @@ use Rattle.card_record.specs.Power.{freshLink}
 use Rattle.card_record.specs.Record.{withErrors}
 use Rattle.card_record.specs.declared.Link.{Link}
 use Rattle.card_record.specs.declared.Mode.{Mode}
-use Rattle.command.specs.Command.{commandOf}
+use Rattle.command.specs.Command.{damagedLink, commandOf}
 use Rattle.command.specs.Obey.{dropsTags, judgedOf, resetTold, stateAt, awaitedBy, obeyed, afterChecks, actedOf}
 use Rattle.command.specs.declared.Acted.{Acted}
 use Rattle.command.specs.declared.Met.{Met}
@@ -27,7 +28,7 @@ use Rattle.moves.specs.declared.Move.{Move}
 use Rattle.moves.specs.declared.Move.the-variants.{Ignored, Silent, Illegal, To}
 use Rattle.spi.proofs.Laws.{mmc-heard, in-spi, stays-in-spi, isInactive, gone, reset, reset-inactive}
 use Rattle.spi.specs.Answers.{responseOf, leftIn, answeredIn, faulted}
-use Rattle.spi.specs.Hearing.{unheard, heardInMmc, modeAfter, takenIn, movedIn, spiHeard, asSpi, heardOf}
+use Rattle.spi.specs.Hearing.{unheard, heardInMmc, modeAfter, takenIn, movedIn, spiHeard, asSpi, heardOf, damagedOf}
 use Rattle.spi.specs.declared.Heard.{Heard}
 use Rattle.spi.specs.declared.Response.{Response}
 use Rattle.spi.specs.declared.Response.the-variants.{R1, R2, R3}
@@ -52,7 +53,7 @@ use Rattle.tags.specs.declared.Tagging.{Tagging}
 use Rattle.tags.specs.declared.Tags.{Tags}
 use Rattle.made.proofs.Acted.{acted-made}
 use Rattle.made.proofs.Commands.{link-made}
-use Rattle.made.proofs.Links.{fresh-made, errors-made}
+use Rattle.made.proofs.Links.{fresh-made, errors-made, damaged-made}
 use Rattle.made.specs.Leading.{Leading}
 use Rattle.made.specs.Made.{pendingBits, Pending, MadeLink, MadeMode}
 
@@ -238,17 +239,21 @@ module _ (mode : Mode) (link : Link) (met : Met) (index argument : ℕ) (made : 
     mode-in-spi =
         picked (λ (m : Mode). m .spi ≡ true) (eqb index 0) (λ t. refl) (λ t. picked (λ (m : Mode). m .spi ≡ true) (eqb index 59) (λ u. here) (λ u. here))
 
-    by-move : (move : Move) → moveOf (rowOf index) (columnOf (link .state)) ≡ move → Kept (movedIn mode link met index argument move)
-    unfolding faulted answeredIn takenIn
-    by-move Ignored e = unheard-kept
-    by-move Silent e = unheard-kept
-    by-move Illegal e =
+    fault-kept : (b : ErrorBit) → Kept (faulted mode link b)
+    unfolding faulted answeredIn
+    fault-kept b =
         record {
-          link = subst⁻¹ (λ (spi : Bool). MadeLink spi (met .groups) (met .locked) (withErrors link (leftIn R1 (withBit (link .errors) (errorBit 22))))) here
+          link = subst⁻¹ (λ (spi : Bool). MadeLink spi (met .groups) (met .locked) (withErrors link (leftIn R1 (withBit (link .errors) b)))) here
               (errors-made true (met .groups) (met .locked) link _ own
-              (left-waits R1 (withBit (link .errors) (errorBit 22)) (set-named (link .errors) (errorBit 22) (pending-named (link .errors) (own .errors)))));
+              (left-waits R1 (withBit (link .errors) b) (set-named (link .errors) b (pending-named (link .errors) (own .errors)))));
           mode = right;
         }
+
+    by-move : (move : Move) → moveOf (rowOf index) (columnOf (link .state)) ≡ move → Kept (movedIn mode link met index argument move)
+    unfolding answeredIn takenIn
+    by-move Ignored e = unheard-kept
+    by-move Silent e = unheard-kept
+    by-move Illegal e = fault-kept (errorBit 22)
     by-move (To column) e =
         let acted : Acted = actedOf link met index argument column in
         let there : T (inState column five) = stays-in-five (rowOf index) (columnOf (link .state)) column (right .reached here) e in
@@ -303,3 +308,19 @@ module _ (mode : Mode) (link : Link) (met : Met) (index argument : ℕ) (made : 
   pub heard-made : (selected : Bool) → Kept (heardOf mode selected link met index argument)
   heard-made selected =
       cases (mode .spi) (λ (here : mode .spi ≡ true). spi-kept here selected) (λ (here : mode .spi ≡ false). by-line here selected)
+
+  -- ---- a frame refused 3
+  damaged-plain : mode .spi ≡ false → Kept (unheard mode (damagedLink link))
+  damaged-plain here =
+      record {
+        link = subst⁻¹ (λ (spi : Bool). MadeLink spi (met .groups) (met .locked) (damagedLink link)) here
+            (damaged-made (met .groups) (met .locked) link (plain here));
+        mode = record { checks = λ c. off here c; reached = λ s. opposite (mode .spi) s here };
+      }
+
+  pub damaged-heard-made : (selected : Bool) → Kept (damagedOf mode selected link)
+  unfolding damagedOf
+  damaged-heard-made selected =
+      picked Kept (mode .spi)
+      (λ (here : mode .spi ≡ true). picked Kept (selected && not (isInactive link)) (λ low. fault-kept here (errorBit 23)) (λ low. unheard-kept))
+      (λ (here : mode .spi ≡ false). damaged-plain here)

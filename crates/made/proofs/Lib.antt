@@ -8,6 +8,7 @@ pub mod Kept
 pub mod Lent
 pub mod Links
 pub mod Locks
+pub mod Modes
 pub mod Never12
 pub mod Pending
 pub mod Reached

@@ -1,10 +1,11 @@
 -- Error bits that can wait for the next R1.
 --   none-pending     no bit
 --   set-pending      one of the list, set
+--   set-either       one of both lists, set, whatever the mode
 --   taken-pending    what a taken command leaves of them
 -- Assumes nothing.
 use mathlib.Core.Path.{_≡_, refl, sym, ap, ap₂, _∙_}
-use mathlib.Core.Bool.{Bool}
+use mathlib.Core.Bool.{Bool, true, false}
 use mathlib.Core.List.{[], _∷_}
 use Prim.Native.Nat.{ℕ, _-_, _^_}
 use lib.Bits.{bitAnd, bitOr, and-comm}
@@ -25,6 +26,11 @@ none-pending spi = refl
 pub set-pending : (spi : Bool) (errors : Errors) (bit : ErrorBit) → bitAnd (2 ^ placeOf bit) (listed spi) ≡ 2 ^ placeOf bit → Pending spi errors
     → Pending spi (withBit errors bit)
 set-pending spi errors bit one h = and-or (errors .bits) (2 ^ placeOf bit) (listed spi) ∙ ap₂ bitOr h one
+
+pub set-either : (spi : Bool) (errors : Errors) (bit : ErrorBit) → bitAnd (2 ^ placeOf bit) (listed true) ≡ 2 ^ placeOf bit
+    → bitAnd (2 ^ placeOf bit) (listed false) ≡ 2 ^ placeOf bit → Pending spi errors → Pending spi (withBit errors bit)
+set-either true errors bit in-spi in-mmc h = set-pending true errors bit in-spi h
+set-either false errors bit in-spi in-mmc h = set-pending false errors bit in-mmc h
 
 pub taken-pending : (spi : Bool) (errors : Errors) → Pending spi errors → Pending spi (commandBitsCleared errors)
 taken-pending spi errors h =

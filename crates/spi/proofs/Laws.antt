@@ -7,7 +7,7 @@
 --   enters         a card that is not in SPI is so after a command exactly if that was CMD0 with its line low, and it is not Inactive
 --   reset, reset-inactive   CMD0 with the line low, wherever it is not Inactive: as after power-on but for the lock flag, in SPI, checking off, answer 01
 --   one-act        where SPI and MMC mode both lead a command to a state, both leave the same link, but for its error bits, and the same change
---   damage-unchanged   a frame refused 3 changes nothing in what is lent
+--   damage-unchanged, damage-keeps-mode   a frame refused 3 changes nothing in what is lent, and no mode
 --   damage-answered, damage-unanswered   a frame refused 3 is answered, by R1 with bit 23, exactly if the card is in SPI, selected and not Inactive
 -- Assumes nothing.
 use mathlib.Core.Path.{_≡_, refl, sym, ap, ap₂, _∙_, subst}
@@ -190,6 +190,12 @@ unfolding damagedOf faulted answeredIn
 damage-unchanged mode selected link =
     picked (λ (h : Heard). h .change ≡ Unchanged) (mode .spi)
     (λ here. picked (λ (h : Heard). h .change ≡ Unchanged) (selected && not (isInactive link)) (λ low. refl) (λ low. refl)) (λ here. refl)
+
+pub damage-keeps-mode : (mode : Mode) (selected : Bool) (link : Link) → damagedOf mode selected link .mode ≡ mode
+unfolding damagedOf faulted answeredIn
+damage-keeps-mode mode selected link =
+    picked (λ (h : Heard). h .mode ≡ mode) (mode .spi)
+    (λ here. picked (λ (h : Heard). h .mode ≡ mode) (selected && not (isInactive link)) (λ low. refl) (λ low. refl)) (λ here. refl)
 
 pub damage-answered : (mode : Mode) (link : Link) → mode .spi ≡ true → isInactive link ≡ false → damagedOf mode true link ≡ faulted mode link (errorBit 23)
 unfolding damagedOf
