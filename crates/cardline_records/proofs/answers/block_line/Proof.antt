@@ -1,4 +1,4 @@
--- `cardline_records::calls::block_line` meets its contract: each return is told what became of the call.
+-- `cardline_records::answers::block_line` meets its contract: each return is told what became of the call.
 -- Assumes nothing.
 use Prim.Native.Nat.{_≤_}
 use native.Mathlib.Omega.{arith}
@@ -7,8 +7,8 @@ use denote.Ref.{now}
 use lib.ListN.{length}
 use Rattle.cardline_looks.specs.Lines.{lineRoom}
 use Rattle.text.proofs.Writing.{line-most}
-use Rattle.cardline_records.proofs.calls.block_line.Statement.{statement}
-use Rattle.cardline_records.proofs.calls.block_line.Tie as tie
+use Rattle.cardline_records.proofs.answers.block_line.Statement.{statement}
+use Rattle.cardline_records.proofs.answers.block_line.Tie as tie
 
 returns : tie.Need-returns
 returns c =

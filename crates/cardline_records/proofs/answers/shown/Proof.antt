@@ -1,10 +1,10 @@
--- `cardline_records::calls::shown` meets its contract: each return is told its test.
+-- `cardline_records::answers::shown` meets its contract: each return is told its test.
 -- Assumes nothing.
 use borrow.Author.Needs.{needs}
 use borrow.Author.Tests.{eq-eqb, ne-eqb}
 use Rattle.cardline_records.specs.Calls.{shownText}
-use Rattle.cardline_records.proofs.calls.shown.Statement.{statement}
-use Rattle.cardline_records.proofs.calls.shown.Tie as tie
+use Rattle.cardline_records.proofs.answers.shown.Statement.{statement}
+use Rattle.cardline_records.proofs.answers.shown.Tie as tie
 
 returns : tie.Need-returns
 unfolding shownText

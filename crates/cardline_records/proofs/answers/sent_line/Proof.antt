@@ -1,4 +1,4 @@
--- `cardline_records::calls::sent_line` meets its contract: each return is told the writer's answer.
+-- `cardline_records::answers::sent_line` meets its contract: each return is told the writer's answer.
 -- Assumes nothing.
 use mathlib.Core.Path.{ap, _∙_}
 use Prim.Native.Nat.{_≤_}
@@ -11,8 +11,8 @@ use Rattle.cardline_records.proofs.Lengths.{shown-short}
 use Rattle.cardline_records.proofs.Sending.{sent-text, unsent-text}
 use Rattle.text.proofs.Writing.{line-as, line-most}
 use Rattle.cardline_records.specs.Calls.{shownText, sentText}
-use Rattle.cardline_records.proofs.calls.sent_line.Statement.{statement}
-use Rattle.cardline_records.proofs.calls.sent_line.Tie as tie
+use Rattle.cardline_records.proofs.answers.sent_line.Statement.{statement}
+use Rattle.cardline_records.proofs.answers.sent_line.Tie as tie
 
 returns : tie.Need-returns
 unfolding sentText

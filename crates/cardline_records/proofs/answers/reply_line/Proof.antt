@@ -1,7 +1,7 @@
--- `cardline_records::calls::reply_line` meets its contract: each return is told its call.
+-- `cardline_records::answers::reply_line` meets its contract: each return is told its call.
 -- Assumes nothing.
 use mathlib.Core.List.{[]}
-use Prim.Native.Nat.{_≤_}
+use Prim.Native.Nat.{_≤_, max}
 use native.Mathlib.Omega.{arith}
 use borrow.Author.Needs.{needs}
 use denote.Ref.{now}
@@ -10,28 +10,28 @@ use Rattle.cardline_looks.specs.Lines.{lineRoom}
 use Rattle.text.proofs.Lengths.{word-short}
 use Rattle.text.proofs.Writing.{line-most}
 use Rattle.cardline_records.specs.Words.{doneWord, powerWord}
-use Rattle.cardline_records.proofs.calls.reply_line.Statement.{statement}
-use Rattle.cardline_records.proofs.calls.reply_line.Tie as tie
+use Rattle.cardline_records.proofs.answers.reply_line.Statement.{statement}
+use Rattle.cardline_records.proofs.answers.reply_line.Tie as tie
 
 returns : tie.Need-returns
 returns c =
     let at-told = c .before .before .before .before in
     let a = at-told .before .before .before .before .args in
-    let h : lineRoom 20 0 ≤ lineRoom 20 (length (now (a .output))) = omega arith in
+    let h : lineRoom 20 17 ≤ lineRoom 20 (max 17 (length (now (a .output)))) = omega arith in
     rw (at-told .enum-told .given .1) (line-most h (c .before .before .frame-line .ensures))
 
 returns-2 : tie.Need-returns-2
 returns-2 c =
     let at-told = c .before .before .before .before in
     let a = at-told .before .before .before .before .args in
-    let h : lineRoom 20 0 ≤ lineRoom 20 (length (now (a .output))) = omega arith in
+    let h : lineRoom 20 17 ≤ lineRoom 20 (max 17 (length (now (a .output)))) = omega arith in
     rw (at-told .enum-told2 .given .1) (line-most h (c .before .before .taken-line .ensures))
 
 returns-3 : tie.Need-returns-3
 returns-3 c =
     let at-told = c .before .before .before .before in
     let a = at-told .before .before .before .before .args in
-    let h : lineRoom 7 (length (now (a .output))) ≤ lineRoom 20 (length (now (a .output))) = omega arith in
+    let h : lineRoom 7 (length (now (a .output))) ≤ lineRoom 20 (max 17 (length (now (a .output)))) = omega arith in
     rw (at-told .enum-told3 .given .1) (line-most h (c .before .before .block-line .ensures))
 
 returns-4 : tie.Need-returns-4
