@@ -8,21 +8,24 @@
 --   unchanged-frame   a frame that is silent and unchanged leaves the card equal in every field
 --   lost-frame        so does CMD2 at a card that lost it, whatever its state: nothing is sent, and nothing that is lent changes. A card in
 --                     SPI whose line is low takes no part: there CMD2 is illegal
+--   stepped-stays     a card that hears no command, and no frame that is refused 3, is equal in every field after every frame
 --   verdict-unread    a frame that is not CMD2 is judged alike, whether the card wins the line or loses it; in SPI every frame is
 -- Assumes nothing.
-use mathlib.Core.Path.{_≡_, refl, ap, ap₂, _∙_, sym}
+use mathlib.Core.Path.{_≡_, refl, sym, ap, ap₂, _∙_, subst}
 use mathlib.Core.Bool.{Bool, true, false, _&&_, _||_}
 use mathlib.Core.List.{List}
 use Prim.Native.Nat.{ℕ}
 use borrow.Author.Tests.{ne-eqb}
 use lib.Dec.{eqb}
 use lib.ListN.{length}
-use Rattle.base.proofs.Cases.{cases, opposite}
+use Rattle.base.proofs.Cases.{cases, guarded, opposite}
 use Rattle.base.specs.Choice.{pick, unless}
 use Rattle.base.specs.Refusals.{by}
 use Rattle.card.specs.Frame.{FrameJudged, frameRefused, commanded, framed, frameJudged, frameStepped, spares, sparedTold, changedBy}
 use Rattle.card_blocks.specs.Replies.{done}
+use Rattle.card_blocks.specs.declared.Outcome.{Outcome}
 use Rattle.card_blocks.specs.declared.Outcome.the-variants.{Done, Refused}
+use Rattle.card_blocks.specs.declared.Stepped.{Stepped}
 use Rattle.card.specs.Step.{stepOf}
 use Rattle.card.specs.declared.Call.the-variants.{Frame}
 use Rattle.command.proofs.Verdict.{any-wins, lost-unchanged}
@@ -34,6 +37,7 @@ use Rattle.command.specs.declared.Change.the-variants.{Nothing}
 use Rattle.command.specs.declared.Commanded.{Commanded}
 use Rattle.card_record.specs.declared.Card.{Card}
 use Rattle.card_record.specs.declared.Link.{Link}
+use Rattle.card_record.specs.declared.Sent.the-variants.{Nothing as Unsent}
 use Rattle.moves.specs.declared.Move.{Move}
 use Rattle.moves.specs.declared.Move.the-variants.{Ignored, Silent, Illegal, To}
 use Rattle.spi.proofs.Laws.{mmc-heard, spi-high}
@@ -42,6 +46,7 @@ use Rattle.spi.specs.declared.Heard.{Heard}
 use Rattle.spi_moves.specs.Moves.{rowOf, moveOf}
 use Rattle.states.specs.States.{columnOf}
 use Rattle.wire.proofs.FrameTheorems.{framing}
+use Rattle.store.proofs.OnceLent.{once-lent}
 use Rattle.store.specs.Lent.{Lent, Seen, seen, lendingOf, onceLent}
 use Rattle.store.specs.declared.Lending.{Lending}
 use Rattle.store.specs.declared.Lending.the-variants.{Right}
@@ -121,6 +126,42 @@ module _ (card : Card) (wins selected : Bool) (frame : List ℕ) (lent : Lent) (
 
     pub unchanged-frame : inMmc ≡ silent (card .link) → stepOf card (Frame wins selected) frame (seen lent) (length out) ≡ done card
     unchanged-frame e = silenced-frame (card .link) e .step
+
+-- ---- a frame that is not heard
+module _ (card : Card) (wins selected : Bool) where
+  -- a frame judged that leaves the card, sends nothing, and has nothing to change
+  abbrev pub Stays : FrameJudged → Type 0
+  Stays j = (j .stepped .card ≡ card) × (j .stepped .reply .sent ≡ Unsent) × (j .change ≡ Nothing)
+
+  abbrev pub Unheard : Heard → Type 0
+  Unheard heard = heard ≡ unheard (card .mode) (card .link)
+
+  unheard-stays : (outcome : Outcome) (heard : Heard) → Unheard heard → Stays (commanded card outcome heard)
+  unheard-stays outcome heard e = subst (λ (h : Heard). Stays (commanded card outcome h)) (sym e) (refl, refl, refl)
+
+  -- a card that hears no command, and no frame that is refused 3
+  module _ (deaf : (index argument : ℕ) → Unheard (heardAt card wins selected index argument)) (undamaged : Unheard (damagedOf (card .mode) selected (card .link))) where
+    framed-stays : (framing : Framing) → Stays (framed card wins selected framing)
+    framed-stays (Unframed refusal) = (refl, refl, refl)
+    framed-stays (Framed index argument right) =
+        guarded Stays (crcPasses (card .mode) index right)
+        (λ t. unheard-stays (Refused (by 3)) (damagedOf (card .mode) selected (card .link)) undamaged)
+        (λ t. unheard-stays Done (heardAt card wins selected index argument) (deaf index argument))
+
+    pub judged-stays : (frame : List ℕ) (seen : Seen) → Stays (frameJudged card wins selected frame seen)
+    unfolding frameJudged
+    judged-stays frame seen =
+        once-lent seen (card .registers .groups) Stays (frameRefused card) (refl, refl, refl) (λ t. framed-stays (framingOf frame))
+
+    -- so with every frame it is equal in every field, and sends nothing
+    pub stepped-stays : (frame : List ℕ) (seen : Seen)
+        → (frameStepped card wins selected frame seen .card ≡ card) × (frameStepped card wins selected frame seen .reply .sent ≡ Unsent)
+    unfolding frameStepped
+    stepped-stays frame seen =
+        let (same, unsent, kept) = judged-stays frame seen in
+        let told : frameStepped card wins selected frame seen ≡ frameJudged card wins selected frame seen .stepped =
+        ap (λ (c : Change). sparedTold (frameJudged card wins selected frame seen .stepped) (spares card seen c)) kept in
+        (ap (λ (s : Stepped). s .card) told ∙ same, ap (λ (s : Stepped). s .reply .sent) told ∙ unsent)
 
 -- ---- a lost line
 -- a card that is not in SPI with its line low does not hear a CMD2 that it lost
