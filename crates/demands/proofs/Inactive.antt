@@ -7,6 +7,7 @@ use mathlib.Core.Path.{_≡_, refl, sym, ap, _∙_, subst}
 use mathlib.Core.Bool.{Bool, true, false}
 use mathlib.Core.List.{List}
 use Prim.Native.Nat.{ℕ}
+use lib.Dec.{eqb}
 use Rattle.base.proofs.Cases.{picked}
 use Rattle.card_blocks.specs.BlockIn.{unread, stateJudged, blockJudged}
 use Rattle.card_blocks.specs.BlockOut.{unsent, stateSends, outJudged}
@@ -22,11 +23,12 @@ use Rattle.command.specs.declared.Met.{Met}
 use Rattle.card_record.specs.Power.{worked}
 use Rattle.card_record.specs.declared.Card.{Card}
 use Rattle.card_record.specs.declared.Sent.the-variants.{Nothing as Unsent}
+use Rattle.spi.proofs.Laws.{isInactive}
 use Rattle.spi.specs.Hearing.{unheard, heardInMmc, movedIn, spiHeard, asSpi, heardOf, damagedOf}
 use Rattle.spi.specs.declared.Heard.{Heard}
 use Rattle.spi_moves.proofs.Laws.{inactive}
 use Rattle.spi_moves.specs.Moves.{rowOf, moveOf}
-use Rattle.states.specs.States.{columnOf}
+use Rattle.states.specs.States.{columnOf, columnNumber}
 use Rattle.states.specs.declared.State.{State}
 use Rattle.states.specs.declared.State.the-variants.{Ina}
 use Rattle.store.proofs.OnceLent.{once-lent}
@@ -49,11 +51,14 @@ module _ (card : Card) (ina : card .link .state ≡ Ina) where
       (λ t. picked (λ (h : Heard). h ≡ unheard (card .mode) (card .link)) (card .mode .spi) (λ here. refl)
       (λ here. ap (heardInMmc (card .mode)) (check-1 (card .link) met index argument ina)))
 
+  test : isInactive (card .link) ≡ true
+  test = ap (λ (s : State). eqb (columnNumber (columnOf s)) 9) ina
+
   -- 3 too: "3 sets bit 23 of the card .. unless Inactive"
   damage-unheard : (selected : Bool) → damagedOf (card .mode) selected (card .link) ≡ unheard (card .mode) (card .link)
   unfolding damagedOf damagedLink
-  damage-unheard true = rw ina (picked (λ (h : Heard). h ≡ unheard (card .mode) (card .link)) (card .mode .spi) (λ here. refl) (λ here. refl))
-  damage-unheard false = rw ina (picked (λ (h : Heard). h ≡ unheard (card .mode) (card .link)) (card .mode .spi) (λ here. refl) (λ here. refl))
+  damage-unheard true = rw test (picked (λ (h : Heard). h ≡ unheard (card .mode) (card .link)) (card .mode .spi) (λ here. refl) (λ here. refl))
+  damage-unheard false = rw test (picked (λ (h : Heard). h ≡ unheard (card .mode) (card .link)) (card .mode .spi) (λ here. refl) (λ here. refl))
 
   abbrev Same : Stepped → Type 0
   Same stepped = (stepped .card ≡ card) × (stepped .reply .sent ≡ Unsent)

@@ -2,6 +2,7 @@ pub mod Blind
 pub mod Examples
 pub mod Faulted
 pub mod Frames
+pub mod InSpi
 pub mod Inactive
 pub mod Refused
 pub mod RefusedOnBus
