@@ -1,3 +1,4 @@
+pub mod AnsweredInSpi
 pub mod Blind
 pub mod Examples
 pub mod Faulted
