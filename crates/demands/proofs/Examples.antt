@@ -26,7 +26,7 @@ use Rattle.command.specs.Command.{metBy}
 use Rattle.command.specs.Arguments.{argumentFault}
 use Rattle.command.specs.Obey.{passesLock, taggingOf, judgedOf}
 use Rattle.command.specs.declared.Met.{Met}
-use Rattle.lock.specs.Passwords.{noPassword}
+use Rattle.lock.specs.Passwords.{holding, noPassword}
 use Rattle.moves.specs.Classes.{classOf}
 use Rattle.moves.specs.Moves.{moveOf}
 use Rattle.moves.specs.Rows.{transferRow, rowOf}
@@ -126,5 +126,5 @@ illegal-met = refl
 
 pub spi-faulted-met : TakenInSpi (carded Tran 512 (inSpi false)) true 16 0 column.Tran
     × (fault (carded Tran 512 (inSpi false) .link) (metBy (carded Tran 512 (inSpi false)) true) 16 0 ≡ Bit (errorBit 29))
-unfolding moveOfSpi rowOfSpi judgedOf taggingOf argumentFault classOf
+unfolding moveOfSpi rowOfSpi judgedOf taggingOf argumentFault classOf holding
 spi-faulted-met = (refl, refl)
