@@ -105,7 +105,7 @@ module _ (numbers cid csd password : List ℕ) where
           let stands =
           ap (λ (l : List ℕ). cardOf l cid csd secret) is
           ∙ link-and-lock-told (next .link) (next .mode) (next .lock) numbers cid csd password (sym (ap linkOf is) ∙ each .0)
-          (sym (ap modeOf is) ∙ each .1 .0) (sym (ap (λ (l : List ℕ). lockOf l secret) is) ∙ each .1 .1)
+          (sym (ap modeOf is) ∙ each .1) (sym (ap (λ (l : List ℕ). lockOf l secret) is) ∙ each .2)
           ∙ sym kept
           in
           subst (λ (s : Stepped). InBy s (leftIn judgedIn) r after secret now told sent) same
@@ -132,6 +132,7 @@ module _ (numbers cid csd password : List ℕ) where
 
     pub out-unlent : (refusal : Refusal) (r : ℕ) → lendingOf (seen lent) (card .registers .groups) ≡ Refused refusal → r ≡ numberOf refusal
         → OutLeft r numbers out 0
+    unfolding sentOut
     out-unlent refusal r e n =
         let leaves = ap leavesRecord n ∙ unlent-leaves (seen lent) (card .registers .groups) refusal e in
         subst (λ (j : OutJudged). OutBy (j .stepped) (sentOut card lent (j .sending) out) r numbers out 0) (out-judged (Refused refusal) e)

@@ -72,7 +72,7 @@ module _ (numbers cid csd password : List ℕ) where
       let stands : cardOf after cid csd password ≡ withMode (withLink (withLock card (next .lock)) (next .link)) (next .mode) =
       ap (cardOf after cid csd) kept ∙ ap (λ (l : List ℕ). cardOf l cid csd (next .lock .password)) told
       ∙ link-and-lock-told (next .link) (next .mode) (next .lock) numbers cid csd password (sym (ap linkOf told) ∙ each .0)
-      (sym (ap modeOf told) ∙ each .1 .0) (sym (ap (λ (l : List ℕ). lockOf l (next .lock .password)) told) ∙ each .1 .1)
+      (sym (ap modeOf told) ∙ each .1) (sym (ap (λ (l : List ℕ). lockOf l (next .lock .password)) told) ∙ each .2)
       in (
         told ∙ lock-front (next .link) (next .mode) (next .lock) numbers
             ∙ ap (λ (c : Card). fronted (linkNumbers (c .link) ++ modeNumbers (c .mode) ++ lockNumbers (c .lock)) numbers) same,

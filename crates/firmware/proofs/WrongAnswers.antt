@@ -32,16 +32,16 @@ use lib.ListN.{getD, replicate}
 use Rattle.base.proofs.Cases.{never}
 use Rattle.base.specs.Refusals.{by}
 use Rattle.base.specs.declared.Written.the-variants.{Bytes, Refused as NotWritten}
-use Rattle.card_blocks.specs.BlockIn.{blockGood, requestJudged, awaitedJudged, blockJudged}
-use Rattle.card_blocks.specs.BlockOut.{outGood, protectionJudged, outJudged}
+use Rattle.card_blocks.specs.BlockIn.{blockGood, requestJudged, checkedJudged, awaitedJudged, blockJudged}
+use Rattle.card_blocks.specs.BlockOut.{outGood, bytesJudged, outJudged}
 use Rattle.card_blocks.specs.declared.Outcome.the-variants.{Wrote, Refused as Unsent}
 use Rattle.command.specs.Command.{damagedLink}
 use Rattle.crc.specs.Bits.{bits}
 use Rattle.crc.specs.Crc.{divide, remainder, checkSum, crc7, crc16}
-use Rattle.crossing.specs.Record.{stateOf, linkOf, lockOf, registersOf, cardOf, linkNumbers, lockNumbers}
+use Rattle.crossing.specs.Record.{stateOf, linkOf, modeOf, lockOf, registersOf, cardOf, linkNumbers, modeNumbers, lockNumbers}
 use Rattle.lock.specs.Passwords.{stored, same, holding}
 use Rattle.lock.specs.Requests.{passwordIn, oldOf, newOf, settable, requestOf}
-use Rattle.card_record.specs.Power.{freshLink, poweredOn}
+use Rattle.card_record.specs.Power.{freshLink, mmcMode, poweredOn}
 use Rattle.card_record.specs.declared.Card.{Card}
 use Rattle.store.specs.Lent.{seenOf}
 use Rattle.store.specs.Map.{entriesRight}
@@ -85,14 +85,16 @@ sum-low-first e = omega arith
 -- ---- a card
 -- the card of one protection group whose first number, its state, is this one, with a start of sectors among its tags
 abbrev numbered : ℕ → ℕ → List ℕ
-numbered state at = state ∷ at ∷ 7 ∷ 16 ∷ 0 ∷ 1 ∷ 3 ∷ 0 ∷ 0 ∷ 0 ∷ 1 ∷ 0 ∷ []
+numbered state at = state ∷ at ∷ 7 ∷ 16 ∷ 0 ∷ 1 ∷ 3 ∷ 0 ∷ 0 ∷ 0 ∷ 0 ∷ 1 ∷ 0 ∷ []
 
 abbrev card : ℕ → Card
 card state = cardOf (numbered state 0) (replicate 16 0) (replicate 16 0) (replicate 16 0)
 
 -- what power-on leaves of its numbers
 abbrev powered : ℕ → List ℕ
-powered state = fronted (linkNumbers (poweredOn (card state) .link) ++ lockNumbers (poweredOn (card state) .lock)) (numbered state 0)
+powered state =
+    fronted (linkNumbers (poweredOn (card state) .link) ++ modeNumbers (poweredOn (card state) .mode) ++ lockNumbers (poweredOn (card state) .lock))
+    (numbered state 0)
 
 power-inactive : getD (powered 13) 0 0 ≡ 13 → ⊥
 unfolding linkNumbers poweredOn freshLink
@@ -118,13 +120,13 @@ sent-told-as-refused : outcomeNumber (Wrote 6) ≡ 6 → ⊥
 sent-told-as-refused e = omega arith
 
 -- a lock request of three bytes at a card with no password: set one of one byte, 9
-password-untold : blockJudged (cardOf (10 ∷ 0 ∷ 7 ∷ 3 ∷ 0 ∷ 0 ∷ 0 ∷ 0 ∷ 0 ∷ 0 ∷ 1 ∷ 0 ∷ []) (replicate 16 0) (replicate 16 0) (replicate 16 0))
+password-untold : blockJudged (cardOf (10 ∷ 0 ∷ 7 ∷ 3 ∷ 0 ∷ 0 ∷ 0 ∷ 0 ∷ 0 ∷ 0 ∷ 0 ∷ 1 ∷ 0 ∷ []) (replicate 16 0) (replicate 16 0) (replicate 16 0))
     (blockOf (1 ∷ 1 ∷ 9 ∷ [])) (seenOf 8192 (0 ∷ [])) .stepped .card .lock .password ≡ replicate 16 0 → ⊥
-unfolding blockJudged awaitedJudged requestJudged requestOf settable oldOf newOf passwordIn stored same holding blockGood blockOf crc16 checkSum remainder divide bits cardOf linkOf lockOf registersOf stateOf entriesRight
+unfolding blockJudged awaitedJudged checkedJudged requestJudged requestOf settable oldOf newOf passwordIn stored same holding blockGood blockOf crc16 checkSum remainder divide bits cardOf linkOf modeOf lockOf registersOf stateOf entriesRight
 password-untold e = let z : _≡_ {A = ℕ} 9 0 = ap (λ (l : List ℕ). getD l 0 0) e in omega arith
 
 sent-unfinished : getD (linkNumbers (outJudged (card 7) (seenOf 8192 (0 ∷ [])) 6 .stepped .card .link)) 0 0 ≡ 7 → ⊥
-unfolding linkNumbers outJudged protectionJudged outGood cardOf linkOf registersOf stateOf entriesRight
+unfolding linkNumbers outJudged bytesJudged outGood cardOf linkOf modeOf registersOf stateOf entriesRight
 sent-unfinished e = omega arith
 
 won-by-256 : wonBy 256 ≡ false → ⊥
@@ -141,6 +143,6 @@ damage-not-told : getD (numbersAfter 3 (linkNumbers (damagedLink (card 4 .link))
 unfolding linkNumbers damagedLink cardOf linkOf stateOf
 damage-not-told e = omega arith
 
-lock-rewritten : getD (numbersAfter 0 (linkNumbers freshLink) (replicate 12 2)) 8 0 ≡ 1 → ⊥
-unfolding linkNumbers freshLink
+lock-rewritten : getD (numbersAfter 0 (linkNumbers freshLink ++ modeNumbers mmcMode) (replicate 13 2)) 9 0 ≡ 1 → ⊥
+unfolding linkNumbers modeNumbers freshLink
 lock-rewritten e = omega arith

@@ -47,7 +47,7 @@ fn tell_damaged(numbers: &mut [u32; 13], selected: bool, answer: &mut [u8; 17]) 
         let damaged = damagedOf (modeOf (now (numbers .entry))) selected (linkOf (now (numbers .entry))) in
         ⌜ r ≡ length (byteSent (damaged .sent)) ⌝
         ∗ ⌜ (now (numbers .exit) ≡ linkNumbers (damaged .link) ++ modeNumbers (damaged .mode) ++ drop 9 (now (numbers .entry)))
-        × (linkOf (now (numbers .exit)) ≡ damaged .link) × (modeOf (now (numbers .exit)) ≡ damaged .mode) ⌝
+        × ((linkOf (now (numbers .exit)) ≡ damaged .link) × (modeOf (now (numbers .exit)) ≡ damaged .mode)) ⌝
         ∗ ⌜ now (answer .exit) ≡ fronted (byteSent (damaged .sent)) (now (answer .entry)) ⌝ }
 {
     let mode = mode_of(*numbers);
@@ -99,7 +99,7 @@ fn hear(
         let bytes = sentBytes (registersOf (now (numbers .entry)) (now (cid .entry)) (now (csd .entry))) (heard .sent) in
         ⌜ r ≡ length bytes ⌝
         ∗ ⌜ (now (numbers .exit) ≡ linkNumbers (heard .link) ++ modeNumbers (heard .mode) ++ drop 9 (now (numbers .entry)))
-        × (linkOf (now (numbers .exit)) ≡ heard .link) × (modeOf (now (numbers .exit)) ≡ heard .mode) ⌝
+        × ((linkOf (now (numbers .exit)) ≡ heard .link) × (modeOf (now (numbers .exit)) ≡ heard .mode)) ⌝
         ∗ ⌜ lentOf (now (memory .exit)) (now (map .exit)) ≡ changed (link .tags) whole (heardOf mode selected link met index argument .change) lent ⌝
         ∗ ⌜ now (answer .exit) ≡ fronted bytes (now (answer .entry)) ⌝ }
 {
