@@ -44,7 +44,6 @@ use Rattle.firmware.specs.Answers.{outcomeNumber, metAt, byteSent, leave
 use Rattle.firmware.proofs.Sends.{damaged-byte}
 use Rattle.firmware.proofs.Told.{after-left, after-told, linked}
 
-
 abbrev Unlent : Refusal → Lending → Type 0
 Unlent refusal lending = lending ≡ Refused refusal → leavesRecord (numberOf refusal) ≡ true
 
@@ -152,9 +151,13 @@ module _ (numbers cid csd password : List ℕ) where
         (subst
         (λ (c : Change).
         By (sparedTold (commanded card (NotDone (by 3)) damaged .stepped) (spares card (seen lent) c)) (changedBy card c lent) r after lent answer told sent)
-        (sym (damage-unchanged (modeOf numbers) selected (linkOf numbers)))
-        (n, ((each .0 ∙ after-told r (linkNumbers (damaged .link) ++ modeNumbers (damaged .mode)) numbers (ap leavesRecord n), each .1),
-        (refl, (bytes ∙ ap (λ (l : List ℕ). fronted l answer) one, count ∙ ap length one)))))
+        (sym (damage-unchanged (modeOf numbers) selected (linkOf numbers))) (
+          n,
+          (
+            (each .0 ∙ after-told r (linkNumbers (damaged .link) ++ modeNumbers (damaged .mode)) numbers (ap leavesRecord n), each .1),
+            (refl, (bytes ∙ ap (λ (l : List ℕ). fronted l answer) one, count ∙ ap length one)),
+          ),
+        ))
 
     spared : (link : Link) (mode : Mode) (outcome : Outcome) (sent : Sent) (skips : Bool)
         → replied (withMode (withLink card (skipTold link skips)) mode) outcome sent
