@@ -30,7 +30,7 @@ use Rattle.base.proofs.Cases.{clash, never}
 use Rattle.base.specs.Refusals.{by}
 use Rattle.card.specs.declared.Call.{Call}
 use Rattle.card.specs.declared.Call.the-variants as call
-use Rattle.card_blocks.specs.BlockOut.{outJudged}
+use Rattle.card_blocks.specs.BlockOut.{outJudged, sentOut}
 use Rattle.card_blocks.specs.declared.Outcome.the-variants.{Done, Refused}
 use Rattle.text.specs.Lines.{numberText, hexText, endText, headText, namedLine, plainLine}
 use Rattle.text.specs.Text.{hexOf, digitsOf, decimalOf}
@@ -96,7 +96,7 @@ unfolding buffersAfter askedBuffers goingBuffers recordCounted askedOf moreAsked
 map-unset e = let d = ap (λ (l : List ℕ). getD l 0 0) e in omega arith
 
 zeros-shown : textOf made (4 ∷ 0 ∷ 2 ∷ []) (lentOf [] (0 ∷ [])) roomy ≡ ascii "1 refused 12 0000\n" → ⊥
-unfolding textOf askedText goingText recordCounted askedOf moreAsked blockOutAsked two callText stepLent outputLent outJudged entriesRight refusedMake numberLine headText endText hexText hexOf numberText decimalOf digitsOf
+unfolding textOf askedText goingText recordCounted askedOf moreAsked blockOutAsked two callText stepLent outputLent outJudged sentOut entriesRight refusedMake numberLine headText endText hexText hexOf numberText decimalOf digitsOf
 zeros-shown e = let d = ap (λ (l : List ℕ). getD l 13 0) e in omega arith
 
 -- whether a frame comes with the select line low
