@@ -8,7 +8,7 @@
 --   mute           not of a program that prints nothing
 -- Assumes nothing.
 use mathlib.Core.Path.{_≡_, refl, sym, ap, _∙_}
-use mathlib.Core.Bool.{true}
+use mathlib.Core.Bool.{true, false}
 use mathlib.Core.List.{List, [], _∷_}
 use Prim.Native.Nat.{ℕ, _+_, _*_, _/_, _%_}
 use native.Mathlib.Omega.{arith}
@@ -30,6 +30,7 @@ use Rattle.moves.specs.Moves.{moveOf}
 use Rattle.moves.specs.Rows.{transferRow, rowOf}
 use Rattle.card_record.specs.Power.{freshLink}
 use Rattle.card_record.specs.declared.Card.{Card}
+use Rattle.spi.specs.Hearing.{heardOf}
 use Rattle.status.specs.Status.{wordOf}
 use Rattle.store.specs.Lent.{seenOf}
 use Rattle.store.specs.Map.{entriesRight}
@@ -42,12 +43,12 @@ use Rattle.wire.specs.declared.Framing.the-variants.{Framed, Unframed}
 use Rattle.marked.proofs.Transcript.{eight-lines}
 use Rattle.marked.specs.Marked.{cardIn, all, marked}
 
--- what our card puts on the line for a frame, lent a memory of 8,192 bytes and its map
+-- what our card puts on the line for a frame, its select line being high, lent a memory of 8,192 bytes and its map
 abbrev pub ours : Card → List ℕ → List ℕ
-ours card frame = sentBytes (card .registers) (cardFrameOf card true frame (seenOf 8192 (0 ∷ [])) .reply .sent)
+ours card frame = sentBytes (card .registers) (cardFrameOf card true false frame (seenOf 8192 (0 ∷ [])) .reply .sent)
 
 pub marked-hold : all frameOf ours crc16 transcript marked
-unfolding cardIn holding freshLink cardFrameOf frameJudged entriesRight commandOf takenOf actedOf afterChecks judgedOf taggingOf argumentFault resetTold obeyed awaitedBy changeOf responseOf answered wordOf classOf moveOf rowOf transferRow sentBytes r1Frame sealed frameOf framingOf fieldsOf crc7Of crc16 checkSum remainder divide bits
+unfolding cardIn holding freshLink cardFrameOf frameJudged entriesRight heardOf commandOf takenOf actedOf afterChecks judgedOf taggingOf argumentFault resetTold obeyed awaitedBy changeOf responseOf answered wordOf classOf moveOf rowOf transferRow sentBytes r1Frame sealed frameOf framingOf fieldsOf crc7Of crc16 checkSum remainder divide bits
 marked-hold = (refl, (refl, (refl, (refl, (refl, (refl, (refl, (refl, (eight-lines, tt)))))))))
 
 pub refusing : (reply : Card → List ℕ → List ℕ) (sum : List ℕ → ℕ) (play : List ℕ → List ℕ) (n : ℕ) → all (λ f. Refused (refusalOf n)) reply sum play marked → ⊥
