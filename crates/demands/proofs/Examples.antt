@@ -20,6 +20,7 @@ use Rattle.lock.specs.Passwords.{noPassword}
 use Rattle.moves.specs.Classes.{classOf}
 use Rattle.moves.specs.Moves.{moveOf}
 use Rattle.moves.specs.Rows.{transferRow, rowOf}
+use Rattle.card_record.specs.Power.{mmcMode}
 use Rattle.card_record.specs.declared.Card.{Card}
 use Rattle.card_record.specs.declared.Link.{Link}
 use Rattle.states.specs.declared.Column.the-variants as column
@@ -57,7 +58,7 @@ unfolding rowOf transferRow
 no-move-met = (record { judged = refl; selects = refl; stuck = refl }, record { judged = refl; selects = refl; stuck = refl })
 
 abbrev inTran : Card
-inTran = record { registers = record { cid = replicate 16 0; csd = replicate 16 0; ocr = 0x00FF8000; groups = 0 }; lock = noPassword; link = linked Tran }
+inTran = record { registers = record { cid = replicate 16 0; csd = replicate 16 0; ocr = 0x00FF8000; groups = 0 }; lock = noPassword; link = linked Tran; mode = mmcMode }
 
 pub refuses-met : Refuses inTran BlockIn [] (lentOf [] []) [] (by 15)
 unfolding blockJudged entriesRight
