@@ -7,7 +7,7 @@
 -- first k entries, `length list` is their number. `≡` is "is", `×` is "and", `A → B` is "if A, then B", `↔` is "exactly if", `→ ⊥` is
 -- "is not so", and `(x : ℕ) × ..` is "there is a number x, and ..". A `record` has the fields that are listed in it, each of which must be
 -- so where it says something; `x .name` is the field `name` of x. `[]` is the empty list, `x ∷ xs` is x and then the list xs. `Unit` asks
--- for nothing. Rounds are counted from 0 here: round k is the (k + 1)-th.
+-- for nothing. A test is `true` or `false`, and `not` and `&&` are "not" and "and" of tests. Rounds are counted from 0 here: round k is the (k + 1)-th.
 --
 -- `Demand3 step` is said of any bus that answers frames, `step`, so that wrong ones can be refuted (proofs/WrongBuses.antt). That it holds
 -- of ours, `busFrame`, which the promise of the call `bus::frame` names, is `demand3` in proofs/Demand3.antt.
@@ -103,8 +103,8 @@ identifier card = spelt (bits (card .registers .cid))
 unfoldable pub cidOf : ℕ → List ℕ
 cidOf number = octets 16 (bitsOf 128 number)
 
--- the identifiers of the cards in Ready, in the order of their places. `isReady`, which the bus itself asks in CMD2, is Ready in MMC mode: "not in
--- SPI, and in Ready"
+-- the identifiers of the cards in Ready, in the order of their places. `isReady`, which the bus itself asks in CMD2, is Ready in MMC mode:
+-- the card is not in SPI, and in Ready
 unfoldable pub readyIdentifiers : List Card → List ℕ
 readyIdentifiers [] = []
 readyIdentifiers (card ∷ cards) = pick (isReady card) (identifier card ∷ readyIdentifiers cards) (readyIdentifiers cards)
@@ -173,8 +173,8 @@ pub record Rounds (step : Step) (bus : Bus) (rounds : List Round) : Type 0 where
   -- after the last, CMD2 gets no answer, and a round changes nothing on the bus
   pub last : (k : ℕ) → k < length rounds → length (identifiers bus) ≤ k
       → (answer step bus rounds k .shown ≡ Silent) × (before step bus rounds (suc k) ≡ before step bus rounds k)
-  -- a card that began in SPI is as it began after any number of rounds, in every field. Nor does it ever answer: every answer of CMD2 is said
-  -- above, and the identifiers that are shown are those of cards in MMC mode
+  -- a card that began in SPI is as it began after any number of rounds, in every field. Nor does it answer: the identifiers that CMD2 shows
+  -- are those of cards in MMC mode, and at our bus it sends nothing at any frame (`spi-stays` in bus, proofs/InSpi.antt)
   pub spi : (place k : ℕ) → cardAt bus place .mode .spi ≡ true → cardAt (before step bus rounds k) place ≡ cardAt bus place
   -- no round adds a card, takes one away, or changes a place that is not taken
   pub places : (k : ℕ) → (before step bus rounds k .count ≡ bus .count)
