@@ -29,7 +29,7 @@ use Rattle.moves.specs.Indices.{among}
 use Rattle.moves.specs.declared.Move.{Move}
 use Rattle.moves.specs.declared.Move.the-variants.{Ignored, Silent, Illegal, To}
 use Rattle.spi.specs.Answers.{responseOf, answeredIn, faulted}
-use Rattle.spi.specs.Hearing.{unheard, modeAfter, takenIn, movedIn, spiHeard}
+use Rattle.spi.specs.Hearing.{takenIn, movedIn, spiHeard}
 use Rattle.spi.specs.declared.Heard.{Heard}
 use Rattle.spi.specs.declared.Response.{Response}
 use Rattle.spi.specs.declared.Response.the-variants.{R1, R2, R3}
@@ -55,7 +55,7 @@ use Rattle.demands.specs.Faulted.{fault}
 use Rattle.demands.specs.InSpi.{AnswersIllegal, heardLow, TakenInSpi, JudgedInSpi, FaultedInSpi}
 use Rattle.demands.specs.Refused.{inactive, noted, cleared}
 use Rattle.demands.specs.Silenced.{Reads, Unlent}
-use Rattle.demands.proofs.Frames.{heard-in-spi, unlent, unlent-as}
+use Rattle.demands.proofs.Frames.{heard-in-spi, unlent}
 
 class-0 : (locked : Bool) → not locked || true ≡ true
 class-0 true = refl
@@ -126,10 +126,13 @@ module _ (card : Card) (here : card .mode .spi ≡ true) (wins : Bool) (index ar
         cases (among index (0 ∷ 13 ∷ 58 ∷ 59 ∷ []))
         (λ (t : among index (0 ∷ 13 ∷ 58 ∷ 59 ∷ []) ≡ true).
         let none : tagging .error ≡ None =
-        each Without (0 ∷ 13 ∷ 58 ∷ 59 ∷ [])
-        (without 0 (class-0 (card .lock .locked)) refl,
-        (without 13 (class-0 (card .lock .locked)) refl,
-        (without 58 (class-0 (card .lock .locked)) refl, (without 59 (class-0 (card .lock .locked)) refl, tt)))) index t in
+        each Without (0 ∷ 13 ∷ 58 ∷ 59 ∷ []) (
+          without 0 (class-0 (card .lock .locked)) refl,
+          (
+            without 13 (class-0 (card .lock .locked)) refl,
+            (without 58 (class-0 (card .lock .locked)) refl, (without 59 (class-0 (card .lock .locked)) refl, tt)),
+          ),
+        ) index t in
         clash cc)
         (λ t. t)
 
@@ -157,7 +160,7 @@ module _ (card : Card) (here : card .mode .spi ≡ true) (wins : Bool) (index ar
         let answer : Mode → Acted → Response → Heard = λ mode acted response. answeredIn mode acted response (card .lock .locked) in
         low (To column) taken
         ∙ ap (λ (t : Bool). answer (pick t (record { spi = true; checks = false }) (pick (eqb index 59) (record { spi = card .mode .spi; checks = eqb (argument % 2) 1 }) (card .mode)))
-          (pick t goneIdle (checked (tagging .error))) (responseOf index)) zero
+        (pick t goneIdle (checked (tagging .error))) (responseOf index)) zero
         ∙ ap (λ (t : Bool). answer (pick t (record { spi = card .mode .spi; checks = eqb (argument % 2) 1 }) (card .mode)) (checked (tagging .error)) (responseOf index)) crc
         ∙ ap (λ (t : Bool). answer (card .mode) (checked (tagging .error)) (pick t R2 (pick (eqb index 58) R3 R1))) status
         ∙ ap (λ (t : Bool). answer (card .mode) (checked (tagging .error)) (pick t R3 R1)) ocr

@@ -1,6 +1,7 @@
 -- Document 02, request 1, frames at a card. For every record, and every frame.
 --   past-two         a frame that 12, 1 and 2 let on is refused 3 or is carried out, with the line low or high
 --   three-exactly    it is refused 3 exactly if its CRC7 is wrong and counts: in MMC mode always, in SPI if checking is on or it is CMD0
+--   crc-unread       where it is not, it is judged as its command, whether its CRC7 is right or wrong
 --   line-unnumbered  12, 1, 2 and 3 are given alike with the line low and with it high, in both modes
 --   high-ignored     at a card in SPI a frame with the line high changes nothing and sends nothing, also where it is refused
 -- Assumes nothing.
@@ -79,6 +80,16 @@ module _ (card : Card) (wins selected : Bool) (frame : List ℕ) (lent : Lent) (
       ∙ ap outcomeOf (judged-as card wins selected frame (seen lent) (on .lent-right) (Framed index argument right) (on .framing))
       ∙ ap (λ (t : Bool). outcomeOf (unless t (commanded card (Refused (by 3)) damaged) (commanded card Done given))) (passes-not (card .mode) index right)
       ∙ three-or-done three card damaged given
+
+  pub crc-unread : three ≡ false
+      → frameJudged card wins selected frame (seen lent)
+      ≡ commanded card Done (heardOf (card .mode) selected (card .link) (metBy card wins) index argument)
+  crc-unread counts =
+      let damaged : Heard = damagedOf (card .mode) selected (card .link) in
+      let given : Heard = heardOf (card .mode) selected (card .link) (metBy card wins) index argument in
+      judged-as card wins selected frame (seen lent) (on .lent-right) (Framed index argument right) (on .framing)
+      ∙ ap (λ (t : Bool). unless t (commanded card (Refused (by 3)) damaged) (commanded card Done given))
+      (passes-not (card .mode) index right ∙ ap not counts)
 
   pub three-exactly : (Refuses card (Frame wins selected) frame lent out (by 3) → three ≡ true)
       × (three ≡ true → Refuses card (Frame wins selected) frame lent out (by 3))

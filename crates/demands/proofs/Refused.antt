@@ -78,30 +78,25 @@ module _ (card : Card) (wins selected : Bool) where
   abbrev hurt : Heard
   hurt = damagedOf (card .mode) selected (card .link)
 
-  damage-named : hearing card hurt ≡ named (Frame wins selected) 3 card
+  damage-leaves : (hearing card hurt ≡ named (Frame wins selected) 3 card) × (hurt .sent ≡ sentBeside (Frame wins selected) 3 card)
   unfolding damagedOf damagedLink faulted answeredIn
-  damage-named =
+  damage-leaves =
       cases (card .mode .spi)
-      (λ (here : card .mode .spi ≡ true). cases (isInactive (card .link))
-      (λ (t : isInactive (card .link) ≡ true). cases selected (λ (s : selected ≡ true). simp (here, t, s)) (λ (s : selected ≡ false). simp (here, t, s)))
-      (λ (t : isInactive (card .link) ≡ false). cases selected (λ (s : selected ≡ true). simp (here, t, s)) (λ (s : selected ≡ false). simp (here, t, s))))
-      (λ (here : card .mode .spi ≡ false). cases (isInactive (card .link))
-      (λ (t : isInactive (card .link) ≡ true). simp (here, t)) (λ (t : isInactive (card .link) ≡ false). simp (here, t)))
-
-  damage-sent : hurt .sent ≡ sentBeside (Frame wins selected) 3 card
-  unfolding damagedOf faulted answeredIn
-  damage-sent =
-      cases (card .mode .spi)
-      (λ (here : card .mode .spi ≡ true). cases (isInactive (card .link))
-      (λ (t : isInactive (card .link) ≡ true). cases selected (λ (s : selected ≡ true). simp (here, t, s)) (λ (s : selected ≡ false). simp (here, t, s)))
-      (λ (t : isInactive (card .link) ≡ false). cases selected (λ (s : selected ≡ true). simp (here, t, s)) (λ (s : selected ≡ false). simp (here, t, s))))
-      (λ (here : card .mode .spi ≡ false). simp here)
+      (λ (here : card .mode .spi ≡ true).
+      cases (isInactive (card .link))
+      (λ (t : isInactive (card .link) ≡ true).
+      cases selected (λ (s : selected ≡ true). (simp (here, t, s), simp (here, t, s))) (λ (s : selected ≡ false). (simp (here, t, s), simp (here, t, s))))
+      (λ (t : isInactive (card .link) ≡ false).
+      cases selected (λ (s : selected ≡ true). (simp (here, t, s), simp (here, t, s))) (λ (s : selected ≡ false). (simp (here, t, s), simp (here, t, s)))))
+      (λ (here : card .mode .spi ≡ false).
+      cases (isInactive (card .link))
+      (λ (t : isInactive (card .link) ≡ true). (simp (here, t), simp here)) (λ (t : isInactive (card .link) ≡ false). (simp (here, t), simp here)))
 
   damage-told : (seen : Seen) → frameTold card seen (commanded card (Refused (by 3)) hurt)
       ≡ replied (named (Frame wins selected) 3 card) (Refused (by 3)) (sentBeside (Frame wins selected) 3 card)
   damage-told seen =
       ap (λ (c : Change). sparedTold (replied (hearing card hurt) (Refused (by 3)) (hurt .sent)) (spares card seen c)) (damage-unchanged (card .mode) selected (card .link))
-      ∙ ap₂ (λ (c : Card) (s : Sent). replied c (Refused (by 3)) s) damage-named damage-sent
+      ∙ ap₂ (λ (c : Card) (s : Sent). replied c (Refused (by 3)) s) (damage-leaves .0) (damage-leaves .1)
 
 -- ---- 17
 response-named : (spi t : Bool) → pick t (pick spi (DataResponse 0x0B) Nothing) Nothing ≡ pick (spi && t) (DataResponse 0x0B) Nothing
@@ -266,10 +261,7 @@ refused-keeps card call input lent out r e =
 
 -- ---- in MMC mode
 mmc-beside : (call : Call) (number : ℕ) (card : Card) → card .mode .spi ≡ false → sentBeside call number card ≡ Nothing
-mmc-beside (Frame wins selected) number card mmc = rw mmc (same number)
-  where
-    same : (n : ℕ) → pick (eqb n 3) Nothing Nothing ≡ Nothing
-    same n = picked (λ (s : Sent). s ≡ Nothing) (eqb n 3) (λ t. refl) (λ t. refl)
+mmc-beside (Frame wins selected) number card mmc = rw mmc (picked (λ (s : Sent). s ≡ Nothing) (eqb number 3) (λ t. refl) (λ t. refl))
 mmc-beside BlockIn number card mmc = rw mmc (picked (λ (s : Sent). s ≡ Nothing) (eqb number 17) (λ t. refl) (λ t. refl))
 mmc-beside BlockOut number card mmc = refl
 mmc-beside WorkDone number card mmc = refl

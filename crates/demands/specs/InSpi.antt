@@ -69,8 +69,8 @@ module _ (card : Card) (wins : Bool) (index argument : ℕ) where
     illegal : AnswersIllegal card heardLow → JudgedInSpi
     silent : inactive card ≡ true → heardLow ≡ unheard (card .mode) (card .link) → JudgedInSpi
 
-  -- checks 5 and 6 stop a command that is taken, with "the same bits, no move" as in MMC mode: R1 shows what of them it can and clears that,
-  -- and the others wait
+  -- checks 5 and 6 stop a command that is taken, as in MMC mode: "the bit, no move", and tags are dropped. R1 shows what it can of the error
+  -- bits and clears that; the others wait
   pub record FaultedInSpi (bit : ErrorBit) : Type 0 where
     pub answer : heardLow .sent ≡ SpiR1 (r1Of (withBit (resetTold (card .link) index) bit) (idleIn (card .link .state)))
     pub errors : heardLow .link .errors ≡ clearedR1 (withBit (resetTold (card .link) index) bit)

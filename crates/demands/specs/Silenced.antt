@@ -91,7 +91,7 @@ module _ (link : Link) (met : Met) (index argument : ℕ) where
     pub selects : inRow row (DeselectCard ∷ []) ≡ false
     pub stuck : noneFrom (columnOf (link .state)) (legal row) ≡ true
 
--- a frame that is no refusal: "Frame: 1, 2, 3; at a card 12 comes first"
+-- a frame that is no refusal in either mode: "Frame: 1, 2, 3; at a card 12 comes first". (`crc-unread` has those of which SPI reads no CRC7)
 pub record Reads (card : Card) (frame : List ℕ) (lent : Lent) (index argument : ℕ) : Type 0 where
   pub right : lendingOf (seen lent) (card .registers .groups) ≡ Right
   pub command : frameOf frame ≡ Command index argument
