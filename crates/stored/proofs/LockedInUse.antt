@@ -14,7 +14,7 @@ use mathlib.Core.List.{List, [], _∷_, _++_, map}
 use Prim.Native.Nat.{ℕ}
 use lib.ListN.{replicate}
 use Rattle.base.specs.Refusals.{by}
-use Rattle.card_blocks.specs.BlockIn.{blockRefused, blockGood, requestJudged, awaitedJudged, blockJudged, storedBy}
+use Rattle.card_blocks.specs.BlockIn.{blockRefused, blockGood, requestJudged, checkedJudged, awaitedJudged, blockJudged, storedBy}
 use Rattle.card.specs.Frame.{frameJudged, frameStepped}
 use Rattle.card_blocks.specs.Replies.{refused, done}
 use Rattle.card.specs.Step.{stepOf}
@@ -39,8 +39,9 @@ use Rattle.moves.specs.Classes.{classOf}
 use Rattle.moves.specs.Moves.{moveOf}
 use Rattle.moves.specs.Rows.{transferRow, rowOf}
 use Rattle.card_record.specs.Making.{passwordMade, madeOf}
-use Rattle.card_record.specs.Power.{freshLink}
+use Rattle.card_record.specs.Power.{freshLink, mmcMode}
 use Rattle.card_record.specs.declared.Making.the-variants.{Done as MakeDone}
+use Rattle.spi.specs.Hearing.{heardOf}
 use Rattle.states.specs.declared.Incoming.the-variants.{LockRequest}
 use Rattle.states.specs.declared.State.{State}
 use Rattle.states.specs.declared.State.the-variants.{Tran, Rcv, Prg}
@@ -67,7 +68,7 @@ locked-made = (refl, refl)
 -- CMD1 of the window, CMD2, CMD3 to address 1, CMD7 to it, CMD42
 abbrev asking : List Input
 asking =
-    map (given (Frame true))
+    map (given (Frame true false))
     (commandFrame 1 0x00FF8000 ∷ commandFrame 2 0 ∷ commandFrame 3 0x00010000 ∷ commandFrame 7 0x00010000 ∷ commandFrame 42 0 ∷ [])
 
 -- an unlock with a password of one byte, and zeros behind it
@@ -82,6 +83,7 @@ card state errors locked =
         registers = record { cid = register; csd = register; ocr = 0x00FF8000; groups = 1 };
         lock = holding (0x2A ∷ []) locked;
         link = record { state = state; address = 1; length = 512; errors = errors; tags = noTags };
+        mode = mmcMode;
       };
       lent = lent;
     }
@@ -90,7 +92,7 @@ abbrev awaiting : World
 awaiting = card (Rcv LockRequest) noErrors true
 
 pub asked : runOf made asking ≡ awaiting
-unfolding runOf next madeOf passwordMade lockMadeOf poweredOf stored registerRight lastByte freshLink crc7Of remainder divide bits entriesRight commandFrame sealed framingOf fieldsOf frameStepped frameJudged commandOf rowOf transferRow moveOf classOf takenOf actedOf afterChecks answered responseOf resetTold wordOf judgedOf taggingOf argumentFault obeyed awaitedBy changeOf holding
+unfolding runOf next madeOf passwordMade lockMadeOf poweredOf stored registerRight lastByte freshLink crc7Of remainder divide bits entriesRight commandFrame sealed framingOf fieldsOf frameStepped frameJudged heardOf commandOf rowOf transferRow moveOf classOf takenOf actedOf afterChecks answered responseOf resetTold wordOf judgedOf taggingOf argumentFault obeyed awaitedBy changeOf holding
 asked = refl
 
 pub asked-made : Made (awaiting .card)
@@ -108,20 +110,20 @@ abbrev left : ℕ → BlockJudged → World
 left byte given = record { card = given .stepped .card; lent = storedBy (unlock byte .bytes) (given .storing) lent }
 
 wrong-judged : judged 0x2B ≡ record { stepped = refused (card Tran (withBit noErrors (errorBit 24)) true .card) (by 20); storing = Nothing }
-unfolding entriesRight blockJudged awaitedJudged requestJudged requestOf presented passwordIn stored same holding blockGood blockRefused blockOf crc16 checkSum remainder divide bits
+unfolding entriesRight blockJudged awaitedJudged checkedJudged requestJudged requestOf presented passwordIn stored same holding blockGood blockRefused blockOf crc16 checkSum remainder divide bits
 wrong-judged = refl
 
 pub wrong-fails : (outcomeOf awaiting (unlock 0x2B) ≡ Refused (by 20)) × (next awaiting (unlock 0x2B) ≡ card Tran (withBit noErrors (errorBit 24)) true)
 unfolding next
 wrong-fails = (ap (λ (j : BlockJudged). j .stepped .reply .outcome) wrong-judged, ap (left 0x2B) wrong-judged)
 
-pub asks-again : next (card Tran (withBit noErrors (errorBit 24)) true) (given (Frame true) (commandFrame 42 0)) ≡ awaiting
-unfolding next crc7Of remainder divide bits entriesRight commandFrame sealed framingOf fieldsOf frameStepped frameJudged commandOf rowOf transferRow moveOf classOf takenOf actedOf afterChecks answered responseOf resetTold wordOf judgedOf taggingOf argumentFault obeyed awaitedBy changeOf holding
+pub asks-again : next (card Tran (withBit noErrors (errorBit 24)) true) (given (Frame true false) (commandFrame 42 0)) ≡ awaiting
+unfolding next crc7Of remainder divide bits entriesRight commandFrame sealed framingOf fieldsOf frameStepped frameJudged heardOf commandOf rowOf transferRow moveOf classOf takenOf actedOf afterChecks answered responseOf resetTold wordOf judgedOf taggingOf argumentFault obeyed awaitedBy changeOf holding
 asks-again = refl
 
 -- ---- the right one
 right-judged : judged 0x2A ≡ record { stepped = done (card Prg noErrors false .card); storing = Nothing }
-unfolding entriesRight blockJudged awaitedJudged requestJudged requestOf presented passwordIn stored same holding blockGood blockRefused blockOf crc16 checkSum remainder divide bits
+unfolding entriesRight blockJudged awaitedJudged checkedJudged requestJudged requestOf presented passwordIn stored same holding blockGood blockRefused blockOf crc16 checkSum remainder divide bits
 right-judged = refl
 
 pub right-unlocks : (outcomeOf awaiting (unlock 0x2A) ≡ Done) × (next awaiting (unlock 0x2A) ≡ card Prg noErrors false)
@@ -129,7 +131,7 @@ unfolding next
 right-unlocks = (ap (λ (j : BlockJudged). j .stepped .reply .outcome) right-judged, ap (left 0x2A) right-judged)
 
 -- ---- a command that is not let through: R1 shows bits 25 and 24, tran and bit 8, and the card stays in tran
-pub read-refused : (stepOf (card Tran noErrors true .card) (Frame true) (commandFrame 17 0) (seen lent) 0 .reply .sent ≡ Status 17 0x03000900)
-    × (next (card Tran noErrors true) (given (Frame true) (commandFrame 17 0)) ≡ card Tran noErrors true)
-unfolding next crc7Of remainder divide bits entriesRight commandFrame sealed framingOf fieldsOf frameStepped frameJudged commandOf rowOf transferRow moveOf classOf takenOf actedOf afterChecks answered responseOf resetTold wordOf judgedOf taggingOf argumentFault obeyed awaitedBy changeOf holding
+pub read-refused : (stepOf (card Tran noErrors true .card) (Frame true false) (commandFrame 17 0) (seen lent) 0 .reply .sent ≡ Status 17 0x03000900)
+    × (next (card Tran noErrors true) (given (Frame true false) (commandFrame 17 0)) ≡ card Tran noErrors true)
+unfolding next crc7Of remainder divide bits entriesRight commandFrame sealed framingOf fieldsOf frameStepped frameJudged heardOf commandOf rowOf transferRow moveOf classOf takenOf actedOf afterChecks answered responseOf resetTold wordOf judgedOf taggingOf argumentFault obeyed awaitedBy changeOf holding
 read-refused = (refl, refl)
