@@ -1,7 +1,9 @@
+pub mod AnsweredInSpi
 pub mod Blind
 pub mod Examples
 pub mod Faulted
 pub mod Frames
+pub mod InSpi
 pub mod Inactive
 pub mod Refused
 pub mod RefusedOnBus

@@ -1,4 +1,5 @@
 pub mod Faulted
+pub mod InSpi
 pub mod Refused
 pub mod RefusedOnBus
 pub mod Silenced
