@@ -6,7 +6,7 @@
 use mathlib.Core.Path.{_≡_, refl, ap, _∙_}
 use mathlib.Core.Bool.{Bool, true, false, not, _&&_, _||_}
 use mathlib.Core.List.{List, [], _∷_}
-use Prim.Native.Nat.{ℕ, _+_, _/_, _%_, _≤_, _<_}
+use Prim.Native.Nat.{ℕ, _/_, _%_, _≤_, _<_}
 use native.Mathlib.Omega.{arith}
 use borrow.Author.Tests.{lt-ltb, eq-eqb}
 use lib.Dec.{eqb}
@@ -14,7 +14,7 @@ use lib.ListN.{length, take}
 use lib.Seq.{take-at}
 use Rattle.card_blocks.proofs.Outcomes.{WritesAt, one, many}
 use Rattle.card_blocks.specs.BlockIn.{awaitedLength, blockGood, writeJudged, carriedOut, checkedJudged, awaitedJudged, blockJudged}
-use Rattle.card_blocks.specs.Framing.{beside, started, unstarted, withStart, crcRight}
+use Rattle.card_blocks.specs.Framing.{started, unstarted, withStart, crcRight}
 use Rattle.card_blocks.specs.declared.BlockJudged.{BlockJudged}
 use Rattle.card_blocks.specs.declared.Outcome.the-variants.{Done}
 use Rattle.card_record.specs.declared.Mode.{Mode}
@@ -28,7 +28,7 @@ use Rattle.store.specs.Lent.{seen}
 use Rattle.wire.specs.Blocks.{blockOf, payloadOf, crcIn}
 use Rattle.wire.proofs.BlockTheorems.{long, good, check-after-write}
 use Rattle.stored.specs.ReadBack.{blockIn, blockOut, storedThenRead, storedStoppedThenRead, framedSector, Awaiting, Writable}
-use Rattle.stored.proofs.ReadBack.{read-back, read-back-many}
+use Rattle.stored.proofs.ReadBack.{with-start-length, read-back, read-back-many}
 
 -- ---- a framed block
 starts : (spi : Bool) (block : List ℕ) → started spi (withStart spi block) ≡ true
@@ -38,10 +38,6 @@ starts false block = refl
 behind-start : (spi : Bool) (block : List ℕ) → unstarted spi (withStart spi block) ≡ block
 behind-start true block = refl
 behind-start false block = refl
-
-framed-length : (spi : Bool) (block : List ℕ) → length block ≡ 514 → length (withStart spi block) ≡ framedSector spi
-framed-length true block e = omega (arith, e)
-framed-length false block e = e
 
 or-true : (b : Bool) → (b || true) ≡ true
 or-true true = refl
@@ -57,7 +53,7 @@ module _ (spi : Bool) (w : World) (payload : List ℕ) (at : ℕ) (here : w .car
   block = withStart spi (blockOf payload)
 
   block-long : length block ≡ framedSector spi
-  block-long = framed-length spi (blockOf payload) (omega (arith, long payload))
+  block-long = with-start-length spi (blockOf payload) (omega (arith, long payload))
 
   crc-right : eqb (crcIn (blockOf payload)) (crc16 (payloadOf (blockOf payload))) ≡ true
   crc-right =

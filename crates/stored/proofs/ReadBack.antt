@@ -15,7 +15,7 @@ use Rattle.base.proofs.Cases.{clash}
 use Rattle.card_blocks.proofs.Outcomes.{WritesAt, one, many, only, Storable, InOutcome, unreads, refuses, stores, grants, forces, block-outcome}
 use Rattle.card_blocks.specs.BlockIn.{afterStored, blockRefused, blockGood, blockJudged, storedBy}
 use Rattle.card_blocks.specs.BlockOut.{partJudged, outGood, outJudged, partBlock, blockLaid, sentOut}
-use Rattle.card_blocks.specs.Framing.{beside, unstarted, withStart}
+use Rattle.card_blocks.specs.Framing.{unstarted, withStart}
 use Rattle.card_blocks.proofs.Framed.{unstarted-length}
 use Rattle.card_blocks.proofs.Laying.{laid-whole}
 use Rattle.card_blocks.specs.declared.BlockJudged.{BlockJudged}
@@ -69,7 +69,7 @@ module _ (card : Card) (block : List ℕ) (seen : Seen) (incoming : Incoming) (a
   stored-as (forces s a) d = no-write w (cc)
 
 -- ---- the run
-with-start-length : (spi : Bool) (block : List ℕ) → length block ≡ 514 → length (withStart spi block) ≡ framedSector spi
+pub with-start-length : (spi : Bool) (block : List ℕ) → length block ≡ 514 → length (withStart spi block) ≡ framedSector spi
 with-start-length true block e = omega (arith, e)
 with-start-length false block e = e
 
