@@ -12,11 +12,11 @@ use Prim.Native.Nat.{ℕ, _*_, _≤_}
 use native.Mathlib.Omega.{arith}
 use lib.ListN.{length}
 use Rattle.base.proofs.Cases.{cases}
-use Rattle.command.specs.Sending.{sentBytes}
+use Rattle.card_record.specs.Sending.{sentBytes}
 use Rattle.command.proofs.Verdict.{lost-unchanged}
 use Rattle.command.specs.Command.{metBy, commandOf}
 use Rattle.command.specs.declared.Commanded.{Commanded}
-use Rattle.command.specs.declared.Sent.{Sent}
+use Rattle.card_record.specs.declared.Sent.{Sent}
 use Rattle.crc.proofs.Bits.{octets-bits, octets-below, length-bits}
 use Rattle.crc.specs.Bits.{bits, octets, Below}
 use Rattle.shared_line.proofs.Arbitration.{wins-shown, someone, contested-length, contested-below}

@@ -8,7 +8,7 @@ use lib.Dec.{eqb}
 use Rattle.command.specs.Answers.{responseOf, answered}
 use Rattle.command.specs.Command.{metBy, receivedOf, takenOf, movedBy, commandOf}
 use Rattle.command.specs.declared.Met.{Met}
-use Rattle.command.specs.declared.Sent.the-variants.{Cid}
+use Rattle.card_record.specs.declared.Sent.the-variants.{Cid}
 use Rattle.moves.specs.Moves.{moveOf}
 use Rattle.moves.specs.Rows.{rowOf}
 use Rattle.moves.specs.declared.Row.the-variants.{AllSendCidWon}

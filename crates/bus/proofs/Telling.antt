@@ -23,7 +23,7 @@ use lib.Seq.{take-suc, take-all, length-take-le}
 use Rattle.base.proofs.Cases.{cases}
 use Rattle.base.proofs.Copying.{copied-front}
 use Rattle.base.specs.Output.{copied}
-use Rattle.command.specs.Sending.{sentBytes}
+use Rattle.card_record.specs.Sending.{sentBytes}
 use Rattle.command.proofs.Verdict.{any-wins}
 use Rattle.command.proofs.Alone.{left-alone}
 use Rattle.command.specs.Command.{metBy, commandOf, decidedOf, leavesAlone}

@@ -33,7 +33,7 @@ use Prim.Native.Nat.{ℕ, _-_}
 use native.Mathlib.Omega.{arith}
 use lib.ListN.{length, getD, replicate}
 use Rattle.base.specs.Refusals.{by}
-use Rattle.command.specs.Sending.{sentBytes}
+use Rattle.card_record.specs.Sending.{sentBytes}
 use Rattle.command.specs.Answers.{responseOf, answered}
 use Rattle.command.specs.Arguments.{argumentFault}
 use Rattle.command.specs.Command.{damagedLink, takenOf, commandOf}

@@ -8,7 +8,7 @@ use lib.ListN.{length, take, drop, getD, set, replicate}
 use Rattle.base.specs.Choice.{pick, unless}
 use Rattle.base.specs.Refusals.{by}
 use Rattle.base.specs.declared.Refusal.{Refusal}
-use Rattle.command.specs.Sending.{sentBytes}
+use Rattle.card_record.specs.Sending.{sentBytes}
 use Rattle.command.specs.Command.{metBy, damagedLink, commandOf}
 use Rattle.command.specs.declared.Commanded.{Commanded}
 use Rattle.crc.specs.Bits.{bits, octets}

@@ -8,7 +8,7 @@ use lib.Dec.{leb}
 use lib.ListN.{length, take, replicate}
 use Rattle.base.specs.Choice.{unless}
 use Rattle.base.specs.Refusals.{by}
-use Rattle.command.specs.Sending.{sentBytes}
+use Rattle.card_record.specs.Sending.{sentBytes}
 use Rattle.command.specs.Command.{metBy, commandOf}
 use Rattle.shared_line.specs.Bytes.{anded}
 use Rattle.moves.specs.Indices.{among}

@@ -9,16 +9,16 @@ use base::Written;
 use base::copy;
 use card_record::Card;
 use card_record::Registers;
+use card_record::Sent;
 use command::Decided;
 use command::Met;
-use command::Sent;
 use wire::Framing;
 ghost use mathlib.Core.Path.{_≡_};
 ghost use Prim.Native.Nat.{_≤_, max};
 ghost use Rattle.bus.specs.Bus.{shownOf, padded, busIndices};
 ghost use Rattle.bus.specs.Hearing.{busAsked, quiet, heardOf, turnOf, sentOn};
 ghost use Rattle.command.specs.Command.{metBy, decidedOf};
-ghost use Rattle.command.specs.Sending.{sentBytes, Sendable};
+ghost use Rattle.card_record.specs.Sending.{sentBytes, Sendable};
 ghost use Rattle.crc.specs.Bits.{Below};
 ghost use Rattle.moves.specs.Indices.{among};
 
@@ -84,7 +84,7 @@ fn hear(heard: Heard, registers: Registers, sent: Sent) -> Heard
     ensures short { λ r. ⌜ r .length ≤ 17 ⌝ }
 {
     let mut sends = [0u8; 17];
-    let written = command::write_sent(registers, sent, &mut sends);
+    let written = card_record::write_sent(registers, sent, &mut sends);
     let line = heard.line;
     match written {
         Written::Bytes(n) => Heard {

@@ -1,12 +1,5 @@
 -- Wrong answers that the promises rule out, each refuted at a sample that antt computes: a call's answer is the definition, so a call
--- that gave the wrong answer would make the two equal. (Those of a frame and of blocks are laws of the crates above.)
---   refusal-done    a refused call told as carried out
---   refusal-sends   one that sends a register
---   refusal-wakes   one that leaves another record
---   done-refused    a call that is carried out told as refused
---   done-sends      one that sends a register
---   done-resets     one that leaves another record
--- and of a command at a link:
+-- that gave the wrong answer would make the two equal. (Those of a frame are laws of the crates above.) Of a command at a link:
 --   skip-untold     an erase that spared a sector, untold
 --   skip-always     bit 15 where none was spared
 --   skip-waits      what is sent is as `command` gives it, so that bit 15 waits for the next R1
@@ -18,60 +11,26 @@ use mathlib.Core.Bool.{Bool, true, false}
 use mathlib.Core.List.{List, [], _∷_}
 use Prim.Native.Nat.{ℕ}
 use native.Mathlib.Omega.{arith}
-use lib.ListN.{getD, replicate}
+use lib.ListN.{getD}
 use Rattle.base.proofs.Cases.{clash}
-use Rattle.base.specs.Refusals.{by}
 use Rattle.command.specs.Answers.{responseOf, answered}
 use Rattle.command.specs.Command.{takenOf, commandOf}
 use Rattle.command.specs.Obey.{taggingOf, judgedOf, resetTold, awaitedBy, obeyed, changeOf, afterChecks, actedOf}
 use Rattle.command.specs.declared.Change.the-variants.{Protect}
 use Rattle.command.specs.declared.Met.{Met}
-use Rattle.command.specs.declared.Sent.the-variants.{Cid}
-use Rattle.lock.specs.Passwords.{noPassword}
 use Rattle.moves.specs.Moves.{moveOf}
 use Rattle.moves.specs.Rows.{transferRow, rowOf}
 use Rattle.card_record.specs.Power.{freshLink}
 use Rattle.card_record.specs.Record.{withState, withTags}
-use Rattle.card_record.specs.declared.Card.{Card}
 use Rattle.card_record.specs.declared.Link.{Link}
-use Rattle.card_record.specs.declared.Registers.{Registers}
-use Rattle.states.specs.declared.State.{State}
-use Rattle.states.specs.declared.State.the-variants.{Idle, Tran, Ina}
+use Rattle.states.specs.declared.State.the-variants.{Tran}
 use Rattle.store.specs.Erase.{sparedTo, anySpared}
 use Rattle.store.specs.Lent.{Seen, lentOf, seenOf}
 use Rattle.tags.specs.Tagging.{tagsOf}
 use Rattle.tags.specs.declared.Kind.the-variants.{Sectors}
 use Rattle.tags.specs.declared.Range.the-variants.{Full}
 use Rattle.card.specs.Frame.{changed, commandHeard}
-use Rattle.card.specs.Replies.{refused, done}
 use Rattle.card.specs.declared.Answered.{Answered}
-use Rattle.card.specs.declared.Outcome.the-variants.{Done, Refused}
-
-abbrev registers : Registers
-registers = record { cid = replicate 16 1; csd = replicate 16 2; ocr = 0x00FF8000; groups = 1 }
-
-abbrev card : State → Card
-card state = record { registers = registers; lock = noPassword; link = withState freshLink state }
-
-refusal-done : refused (card Ina) (by 12) .reply .outcome ≡ Done → ⊥
-refusal-done e = clash cc
-
-refusal-sends : refused (card Ina) (by 12) .reply .sent ≡ Cid → ⊥
-refusal-sends e = clash cc
-
-refusal-wakes : refused (card Ina) (by 12) .card .link .state ≡ Idle → ⊥
-unfolding freshLink
-refusal-wakes e = clash cc
-
-done-refused : done (card Tran) .reply .outcome ≡ Refused (by 12) → ⊥
-done-refused e = clash cc
-
-done-sends : done (card Tran) .reply .sent ≡ Cid → ⊥
-done-sends e = clash cc
-
-done-resets : done (card Tran) .card .link .state ≡ Idle → ⊥
-unfolding freshLink
-done-resets e = clash cc
 
 -- CMD38 in tran, sector 1 tagged, under a map of one group
 abbrev erasing : List ℕ → Answered

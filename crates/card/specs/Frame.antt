@@ -6,10 +6,10 @@ use Prim.Native.Nat.{ℕ}
 use Rattle.base.specs.Choice.{unless}
 use Rattle.base.specs.Refusals.{by}
 use Rattle.base.specs.declared.Refusal.{Refusal}
-use Rattle.card.specs.Replies.{replied, refused}
+use Rattle.card_blocks.specs.Replies.{replied, refused}
 use Rattle.card.specs.declared.Answered.{Answered}
-use Rattle.card.specs.declared.Outcome.the-variants.{Done}
-use Rattle.card.specs.declared.Stepped.{Stepped}
+use Rattle.card_blocks.specs.declared.Outcome.the-variants.{Done}
+use Rattle.card_blocks.specs.declared.Stepped.{Stepped}
 use Rattle.command.specs.Command.{metBy, damagedLink, commandOf}
 use Rattle.command.specs.declared.Change.{Change}
 use Rattle.command.specs.declared.Change.the-variants.{Nothing, Protect, Erase}

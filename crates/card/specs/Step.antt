@@ -4,13 +4,13 @@
 use mathlib.Core.List.{List}
 use Prim.Native.Nat.{ℕ}
 use lib.ListN.{length}
-use Rattle.card.specs.BlockIn.{blockJudged, storedBy}
-use Rattle.card.specs.BlockOut.{outJudged, sentOut}
+use Rattle.card_blocks.specs.BlockIn.{blockJudged, storedBy}
+use Rattle.card_blocks.specs.BlockOut.{outJudged, sentOut}
 use Rattle.card.specs.Frame.{frameJudged, frameStepped, changedBy}
-use Rattle.card.specs.Replies.{done}
+use Rattle.card_blocks.specs.Replies.{done}
 use Rattle.card.specs.declared.Call.{Call}
 use Rattle.card.specs.declared.Call.the-variants.{Frame, BlockIn, BlockOut, WorkDone, PowerOn}
-use Rattle.card.specs.declared.Stepped.{Stepped}
+use Rattle.card_blocks.specs.declared.Stepped.{Stepped}
 use Rattle.card_record.specs.Power.{poweredOn, worked}
 use Rattle.card_record.specs.declared.Card.{Card}
 use Rattle.store.specs.Lent.{Lent, Seen, seen}

@@ -1,10 +1,10 @@
 // A frame at a card: 12, 1, 2, 3, and then the command.
 use crate::Answered;
-use crate::Outcome;
-use crate::Reply;
-use crate::Stepped;
-use crate::replies::refuse;
 use base::Refusal;
+use card_blocks::Outcome;
+use card_blocks::Reply;
+use card_blocks::Stepped;
+use card_blocks::refuse;
 use card_record::Card;
 use card_record::Link;
 use command::Change;

@@ -1,77 +1,25 @@
 // One card at its own calls (document 01, "How a card takes a frame" and "Reading, writing, erasing,
-// locking"): a frame, a block in, a block out, work done and power-on, and the one step that is any
-// of them. Each judges by value, from the record, the input, the map and the lengths of the rest,
-// and then changes what is lent. No call has a `requires`.
+// locking"): a frame, and the one step that is a frame, a block in, a block out, work done or power-on.
+// A frame is judged by value, from the record, its bytes, the map and the memory's length, and then
+// changes what is lent. No call has a `requires`.
 //
-// Offers: `Outcome`, `Reply`, `Stepped`; `frame`, `block_in`, `block_out`; `Answered`, `heard`, `taken_in`
-// and `given_out`, what these three do once what is lent was found right, and a frame read; `Call`,
-// `step`. The other types are what judging gives: the definitions name them.
-mod blocks_in;
-mod blocks_out;
+// Offers: `frame`; `Answered`, `heard`, what it does once what is lent was found right and the frame read;
+// `Call`, `step`. `card_blocks` has the blocks, and the answer of a call.
 mod frames;
-mod replies;
 
-use base::Refusal;
-pub use blocks_in::block_in;
-pub use blocks_in::taken_in;
-pub use blocks_out::block_out;
-pub use blocks_out::given_out;
+use card_blocks::Stepped;
+use card_blocks::block_in;
+use card_blocks::block_out;
+use card_blocks::done;
 use card_record::Card;
 use card_record::Link;
-use command::Sent;
+use card_record::Sent;
 pub use frames::frame;
 pub use frames::heard;
-use replies::done;
 ghost use mathlib.Core.Path.{_≡_};
 ghost use lib.ListN.{length};
 ghost use Rattle.card.specs.Step.{stepOf, lentAfter, outputOf};
 ghost use Rattle.store.specs.Lent.{lentOf, seen};
-
-// What became of a call: it was carried out; it wrote so many bytes at the front of the output; the
-// refusal.
-pub enum Outcome {
-    Done,
-    Wrote(usize),
-    Refused(Refusal),
-}
-
-// A call's answer: what became of it, and what the card sends.
-pub struct Reply {
-    pub outcome: Outcome,
-    pub sent: Sent,
-}
-
-// The next record and the answer.
-pub struct Stepped {
-    pub card: Card,
-    pub reply: Reply,
-}
-
-// What a block is to change in what is lent: nothing; a sector, written; everything, erased.
-pub enum Storing {
-    Nothing,
-    Sector(u32),
-    All,
-}
-
-// A block judged: the answer, and what is to be stored.
-pub struct BlockJudged {
-    pub stepped: Stepped,
-    pub storing: Storing,
-}
-
-// What goes out: nothing; bytes of memory from a place on; the protection bits from a group on.
-pub enum Sending {
-    Nothing,
-    Part { at: u32, length: u16 },
-    Protection(u32),
-}
-
-// A block out judged: the answer, and what goes out.
-pub struct OutJudged {
-    pub stepped: Stepped,
-    pub sending: Sending,
-}
 
 // What a command leaves at a card: the link, and what is sent.
 pub struct Answered {

@@ -1,1 +1,3 @@
 pub mod WrongAnswers
+pub mod WrongSends
+pub mod Writes

@@ -1,3 +1,4 @@
 pub mod Making
 pub mod Power
 pub mod Record
+pub mod Sending

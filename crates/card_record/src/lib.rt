@@ -1,12 +1,15 @@
 // The record of one card (document 01, "How a card takes a frame"), nested so that a command takes
 // only the small part that it changes; how a card is made, powered on, and told that its work is
-// done. Any value of the record may come in, so no call has a `requires`.
+// done; and what it sends of it. Any value of the record may come in, so no call has a `requires`.
 //
 // Offers: `Registers`, `Link`, `Card`; `size`, `csd_protects`, `read_length`, `crosses`, `fresh`; `power_on`,
-// `work_done`; `Making`, `Made`, `make`, `refused_make`.
+// `work_done`; `Making`, `Made`, `make`, `refused_make`; `Sent`, `write_sent`.
+mod sending;
+
 use base::PROTECTION_GROUP;
 use base::Refusal;
 use lock::Lock;
+pub use sending::write_sent;
 use states::State;
 use status::Errors;
 use tags::Tags;
@@ -51,6 +54,15 @@ pub enum Making {
 pub struct Made {
     pub card: Card,
     pub making: Making,
+}
+
+// What a card sends: nothing, R1, R2 with the CID or the CSD, R3.
+pub enum Sent {
+    Nothing,
+    Status { index: u8, status: u32 },
+    Cid,
+    Csd,
+    Ocr,
 }
 
 // The sizes of document 01, in the types that they are used in here.

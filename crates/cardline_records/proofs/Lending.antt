@@ -23,7 +23,7 @@ use Rattle.cardline_records.specs.Makes.{memoryFilled}
 use Rattle.cardline_records.specs.Progress.{putBack}
 use Rattle.card.specs.Step.{stepOf, lentAfter, outputOf}
 use Rattle.card.specs.declared.Call.{Call}
-use Rattle.card.specs.declared.Stepped.{Stepped}
+use Rattle.card_blocks.specs.declared.Stepped.{Stepped}
 use Rattle.card_record.specs.declared.Card.{Card}
 use Rattle.cardline_script.specs.declared.Sizes.{Sizes}
 use Rattle.store.specs.Lent.{Lent, lentOf, seen}

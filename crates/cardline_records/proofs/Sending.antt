@@ -16,9 +16,9 @@ use Rattle.base.specs.declared.Written.{Written}
 use Rattle.base.specs.declared.Written.the-variants.{Bytes, Refused}
 use Rattle.cardline_looks.specs.Lines.{refusedLine}
 use Rattle.cardline_records.specs.Calls.{shownText, sentLine}
-use Rattle.command.specs.Sending.{sentBytes, sentWritten}
-use Rattle.command.specs.declared.Sent.{Sent}
-use Rattle.command.specs.declared.Sent.the-variants.{Nothing, Status, Cid, Csd, Ocr}
+use Rattle.card_record.specs.Sending.{sentBytes, sentWritten}
+use Rattle.card_record.specs.declared.Sent.{Sent}
+use Rattle.card_record.specs.declared.Sent.the-variants.{Nothing, Status, Cid, Csd, Ocr}
 use Rattle.card_record.specs.declared.Registers.{Registers}
 use Rattle.wire.specs.Frames.{indexed}
 

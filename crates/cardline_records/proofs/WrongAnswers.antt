@@ -21,7 +21,7 @@ use Prim.Native.Nat.{ℕ}
 use native.Mathlib.Omega.{arith}
 use lib.ListN.{getD, replicate}
 use Rattle.base.proofs.Cases.{clash, never}
-use Rattle.card.specs.BlockOut.{outJudged}
+use Rattle.card_blocks.specs.BlockOut.{outJudged}
 use Rattle.text.specs.Lines.{numberText, hexText, endText, headText, namedLine, plainLine}
 use Rattle.text.specs.Text.{hexOf, digitsOf, decimalOf}
 use Rattle.text.specs.Words.{ascii}

@@ -17,15 +17,15 @@ use Rattle.cardline_records.specs.Progress.{putBack}
 use Rattle.cardline_script.specs.declared.Calling.{Calling}
 use Rattle.cardline_script.specs.declared.Calling.the-variants.{Frame, BlockIn, BlockOut, WorkDone, PowerOn}
 use Rattle.cardline_script.specs.declared.Sizes.{Sizes}
-use Rattle.command.specs.Sending.{sentBytes, sentWritten}
+use Rattle.card_record.specs.Sending.{sentBytes, sentWritten}
 use Rattle.card.specs.Step.{stepOf, lentAfter, outputOf}
 use Rattle.card.specs.declared.Call.{Call}
 use Rattle.card.specs.declared.Call.the-variants as call
-use Rattle.card.specs.declared.Outcome.{Outcome}
-use Rattle.card.specs.declared.Outcome.the-variants.{Done, Wrote, Refused}
-use Rattle.card.specs.declared.Reply.{Reply}
-use Rattle.card.specs.declared.Stepped.{Stepped}
-use Rattle.command.specs.declared.Sent.{Sent}
+use Rattle.card_blocks.specs.declared.Outcome.{Outcome}
+use Rattle.card_blocks.specs.declared.Outcome.the-variants.{Done, Wrote, Refused}
+use Rattle.card_blocks.specs.declared.Reply.{Reply}
+use Rattle.card_blocks.specs.declared.Stepped.{Stepped}
+use Rattle.card_record.specs.declared.Sent.{Sent}
 use Rattle.card_record.specs.declared.Card.{Card}
 use Rattle.card_record.specs.declared.Registers.{Registers}
 use Rattle.store.specs.Lent.{Lent, seen}

@@ -5,17 +5,17 @@ use base::Written;
 use base::fill;
 use base::least;
 use card::Call;
-use card::Outcome;
-use card::Reply;
-use card::Stepped;
+use card_blocks::Outcome;
+use card_blocks::Reply;
+use card_blocks::Stepped;
 use card_record::Card;
 use card_record::Registers;
+use card_record::Sent;
 use cardline_looks::lines::refused;
 use cardline_looks::lines::say_number;
 use cardline_looks::space;
 use cardline_script::Calling;
 use cardline_script::Sizes;
-use command::Sent;
 use text::lines::say;
 use text::parts::part;
 ghost use mathlib.Core.Path.{_≡_};
@@ -59,7 +59,7 @@ fn sent_line(count: u64, registers: Registers, sent: Sent, out: &mut [u8]) -> us
     ensures { λ r. ⌜ Line (lineRoom 20 0) (now (out .entry)) (now (out .exit)) r (sentText count registers sent) ⌝ }
 {
     let mut bytes = [0u8; 17];
-    let written = command::write_sent(registers, sent, &mut bytes);
+    let written = card_record::write_sent(registers, sent, &mut bytes);
     match written {
         Written::Bytes(n) => shown(count, part(&bytes, 0, n), out),
         Written::Refused(refusal) => refused(count, refusal, b"", out),

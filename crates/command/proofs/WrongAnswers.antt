@@ -73,7 +73,7 @@ use Rattle.command.specs.Command.{damagedLink, takenOf, commandOf, leave
 use Rattle.command.specs.Obey.{dropsTags, passesLock, taggingOf, judgedOf, resetTold, awaitedBy, obeyed, changeOf, afterChecks, actedOf}
 use Rattle.command.specs.declared.Change.the-variants.{Protect, Erase}
 use Rattle.command.specs.declared.Met.{Met}
-use Rattle.command.specs.declared.Sent.the-variants.{Status}
+use Rattle.card_record.specs.declared.Sent.the-variants.{Status}
 
 -- a card of address 1 and block length 512, with a state, pending bits and tags
 abbrev card : State → ℕ → Tags → Link

@@ -18,8 +18,8 @@ use Rattle.command.specs.declared.Change.the-variants.{Nothing as Unchan
 use Rattle.command.specs.declared.Commanded.{Commanded}
 use Rattle.command.specs.declared.Response.{Response}
 use Rattle.command.specs.declared.Response.the-variants.{Nothing as NoResponse, R1, R2, R3}
-use Rattle.command.specs.declared.Sent.{Sent}
-use Rattle.command.specs.declared.Sent.the-variants.{Nothing, Status, Cid, Csd, Ocr}
+use Rattle.card_record.specs.declared.Sent.{Sent}
+use Rattle.card_record.specs.declared.Sent.the-variants.{Nothing, Status, Cid, Csd, Ocr}
 
 -- the column "Answer" of the table: the rows with R1, those with R2 and those with R3; the others answer nothing
 abbrev pub answeredR1 : List Row

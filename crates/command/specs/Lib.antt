@@ -2,4 +2,3 @@ pub mod Answers
 pub mod Arguments
 pub mod Command
 pub mod Obey
-pub mod Sending

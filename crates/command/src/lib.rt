@@ -3,18 +3,17 @@
 // does to a card stands in obey.rt, whatever the mode; which commands are taken, what they answer
 // and which error bits they clear, as MMC mode has it, stands here. No call has a `requires`.
 //
-// Offers: `Met`, `Change`, `Acted`, `act`; `Sent`, `Commanded`, `command`; its two parts,
-// `Decided`, `decide`, `leaves_alone` and `follow`; `damaged`; `write_sent`.
+// Offers: `Met`, `Change`, `Acted`, `act`; `Commanded`, `command`; its two parts, `Decided`,
+// `decide`, `leaves_alone` and `follow`; `damaged`.
 mod arguments;
 mod obey;
-mod sending;
 
 use card_record::Link;
+use card_record::Sent;
 use moves::Move;
 use moves::Received;
 use moves::Row;
 pub use obey::act;
-pub use sending::write_sent;
 use states::Column;
 use status::ErrorBit;
 use status::Errors;
@@ -29,15 +28,6 @@ pub struct Met {
     pub groups: u16,
     pub locked: bool,
     pub wins: bool,
-}
-
-// What a card sends: nothing, R1, R2 with the CID or the CSD, R3.
-pub enum Sent {
-    Nothing,
-    Status { index: u8, status: u32 },
-    Cid,
-    Csd,
-    Ocr,
 }
 
 // What a command changes in what is lent: nothing; a protection group set or cleared; the tagged

@@ -11,7 +11,7 @@ use mathlib.Core.List.{[]}
 use native.Mathlib.Omega.{arith}
 use lib.ListN.{replicate}
 use Rattle.base.specs.Refusals.{by}
-use Rattle.card.specs.BlockIn.{blockJudged}
+use Rattle.card_blocks.specs.BlockIn.{blockJudged}
 use Rattle.card.specs.declared.Call.the-variants.{BlockIn}
 use Rattle.command.specs.Arguments.{argumentFault}
 use Rattle.command.specs.Obey.{passesLock, taggingOf, judgedOf}

@@ -13,7 +13,7 @@ use Prim.Native.Nat.{ℕ}
 use borrow.Author.Tests.{ne-eqb}
 use lib.ListN.{length}
 use Rattle.card.specs.Frame.{FrameJudged, frameRefused, commanded, framed, frameJudged, frameStepped, spares, sparedTold, changedBy}
-use Rattle.card.specs.Replies.{done}
+use Rattle.card_blocks.specs.Replies.{done}
 use Rattle.card.specs.Step.{stepOf}
 use Rattle.card.specs.declared.Call.the-variants.{Frame}
 use Rattle.command.proofs.Verdict.{any-wins, lost-unchanged}

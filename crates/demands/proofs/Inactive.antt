@@ -6,14 +6,14 @@ use mathlib.Core.Bool.{Bool}
 use mathlib.Core.List.{List}
 use Prim.Native.Nat.{ℕ}
 use Rattle.base.proofs.Cases.{guarded}
-use Rattle.card.specs.BlockIn.{unread, stateJudged, blockJudged}
-use Rattle.card.specs.BlockOut.{unsent, stateSends, outJudged}
+use Rattle.card_blocks.specs.BlockIn.{unread, stateJudged, blockJudged}
+use Rattle.card_blocks.specs.BlockOut.{unsent, stateSends, outJudged}
 use Rattle.card.specs.Frame.{FrameJudged, frameRefused, framed, frameJudged, frameStepped, spares, sparedTold}
 use Rattle.card.specs.Step.{stepOf}
-use Rattle.card.specs.declared.BlockJudged.{BlockJudged}
+use Rattle.card_blocks.specs.declared.BlockJudged.{BlockJudged}
 use Rattle.card.specs.declared.Call.{Call}
 use Rattle.card.specs.declared.Call.the-variants.{Frame, BlockIn, BlockOut, WorkDone, PowerOn}
-use Rattle.card.specs.declared.OutJudged.{OutJudged}
+use Rattle.card_blocks.specs.declared.OutJudged.{OutJudged}
 use Rattle.command.specs.Command.{metBy, damagedLink}
 use Rattle.command.specs.declared.Change.{Change}
 use Rattle.command.specs.declared.Change.the-variants.{Nothing}

@@ -13,27 +13,28 @@ use lib.ListN.{length}
 use Rattle.base.proofs.Cases.{cases, picked, clash}
 use Rattle.base.specs.Refusals.{numberOf, refusalOf, by}
 use Rattle.base.specs.declared.Refusal.{Refusal}
-use Rattle.card.proofs.Outcomes.{Refuses as Awaited, wrong-length, wrong-crc, past-end, protected, failed, InOutcome, unreads, refuses, stores, grants, forces, OutOutcome, unsends, past, across, sends, FrameOutcome, unheard, damaged, commands, block-outcome, out-outcome, frame-outcome, told}
-use Rattle.card.specs.BlockIn.{afterRefused, withFault, blockRefused, blockGood, storedBy}
-use Rattle.card.specs.BlockOut.{outRefused, outGood, sentOut}
+use Rattle.card_blocks.proofs.Outcomes.{Refuses as Awaited, wrong-length, wrong-crc, past-end, protected, failed, InOutcome, unreads, refuses, stores, grants, forces, OutOutcome, unsends, past, across, sends, block-outcome, out-outcome}
+use Rattle.card.proofs.Outcomes.{FrameOutcome, unheard, damaged, commands, frame-outcome, told}
+use Rattle.card_blocks.specs.BlockIn.{afterRefused, withFault, blockRefused, blockGood, storedBy}
+use Rattle.card_blocks.specs.BlockOut.{outRefused, outGood, sentOut}
 use Rattle.card.specs.Frame.{FrameJudged, commanded, frameStepped, changedBy, spares, frameTold}
-use Rattle.card.specs.Replies.{refused}
+use Rattle.card_blocks.specs.Replies.{refused}
 use Rattle.card.specs.Step.{stepOf}
-use Rattle.card.specs.declared.BlockJudged.{BlockJudged}
+use Rattle.card_blocks.specs.declared.BlockJudged.{BlockJudged}
 use Rattle.card.specs.declared.Call.{Call}
 use Rattle.card.specs.declared.Call.the-variants.{Frame, BlockIn, BlockOut, WorkDone, PowerOn}
-use Rattle.card.specs.declared.OutJudged.{OutJudged}
-use Rattle.card.specs.declared.Outcome.the-variants.{Done, Refused}
-use Rattle.card.specs.declared.Sending.{Sending}
-use Rattle.card.specs.declared.Sending.the-variants as sending
-use Rattle.card.specs.declared.Stepped.{Stepped}
-use Rattle.card.specs.declared.Storing.{Storing}
-use Rattle.card.specs.declared.Storing.the-variants as storing
+use Rattle.card_blocks.specs.declared.OutJudged.{OutJudged}
+use Rattle.card_blocks.specs.declared.Outcome.the-variants.{Done, Refused}
+use Rattle.card_blocks.specs.declared.Sending.{Sending}
+use Rattle.card_blocks.specs.declared.Sending.the-variants as sending
+use Rattle.card_blocks.specs.declared.Stepped.{Stepped}
+use Rattle.card_blocks.specs.declared.Storing.{Storing}
+use Rattle.card_blocks.specs.declared.Storing.the-variants as storing
 use Rattle.command.specs.Command.{metBy, damagedLink, commandOf}
 use Rattle.command.specs.declared.Change.{Change}
 use Rattle.command.specs.declared.Change.the-variants as change
 use Rattle.command.specs.declared.Commanded.{Commanded}
-use Rattle.command.specs.declared.Sent.the-variants.{Nothing}
+use Rattle.card_record.specs.declared.Sent.the-variants.{Nothing}
 use Rattle.moves.proofs.Among.{each}
 use Rattle.moves.specs.Indices.{among}
 use Rattle.card_record.specs.Record.{withState, withErrors, withLink}

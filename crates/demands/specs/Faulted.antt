@@ -6,7 +6,7 @@ use Rattle.command.specs.Obey.{judgedOf, resetTold}
 use Rattle.command.specs.declared.Change.the-variants.{Nothing}
 use Rattle.command.specs.declared.Commanded.{Commanded}
 use Rattle.command.specs.declared.Met.{Met}
-use Rattle.command.specs.declared.Sent.the-variants.{Status}
+use Rattle.card_record.specs.declared.Sent.the-variants.{Status}
 use Rattle.card_record.specs.declared.Link.{Link}
 use Rattle.states.specs.States.{columnOf}
 use Rattle.status.specs.Bits.{bitAt}

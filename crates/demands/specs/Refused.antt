@@ -13,8 +13,8 @@ use Rattle.base.specs.declared.Refusal.{Refusal}
 use Rattle.card.specs.Step.{stepOf, lentAfter, outputOf}
 use Rattle.card.specs.declared.Call.{Call}
 use Rattle.card.specs.declared.Call.the-variants.{Frame, BlockIn, BlockOut, WorkDone, PowerOn}
-use Rattle.card.specs.declared.Outcome.the-variants.{Refused}
-use Rattle.command.specs.declared.Sent.the-variants.{Nothing}
+use Rattle.card_blocks.specs.declared.Outcome.the-variants.{Refused}
+use Rattle.card_record.specs.declared.Sent.the-variants.{Nothing}
 use Rattle.moves.specs.Indices.{among}
 use Rattle.moves.specs.Moves.{inState}
 use Rattle.card_record.specs.Record.{withState, withErrors, withLink}

@@ -7,10 +7,10 @@ use Prim.Native.Nat.{ℕ, _/_}
 use lib.Dec.{eqb}
 use lib.ListN.{length}
 use Rattle.base.specs.Choice.{pick}
-use Rattle.card.specs.Replies.{replied}
+use Rattle.card_blocks.specs.Replies.{replied}
 use Rattle.card.specs.Step.{stepOf, lentAfter, outputOf}
 use Rattle.card.specs.declared.Call.the-variants.{Frame}
-use Rattle.card.specs.declared.Outcome.the-variants.{Done}
+use Rattle.card_blocks.specs.declared.Outcome.the-variants.{Done}
 use Rattle.command.specs.Answers.{silent}
 use Rattle.command.specs.Command.{receivedOf, commandOf}
 use Rattle.command.specs.declared.Commanded.{Commanded}

@@ -13,12 +13,12 @@ use borrow.Author.Tests.{eqb-true}
 use lib.Dec.{eqb}
 use lib.ListN.{getD, set}
 use Rattle.base.proofs.Cases.{cases, picked, never, opposite}
-use Rattle.card.proofs.Outcomes.{wrong-length, wrong-crc, past-end, protected, failed, InOutcome, unreads, refuses, stores, grants, forces, OutOutcome, unsends, past, across, sends, block-outcome, out-outcome}
-use Rattle.card.specs.BlockIn.{blockRefused, blockGood, blockJudged}
-use Rattle.card.specs.BlockOut.{outRefused, outGood, outJudged}
-use Rattle.card.specs.declared.BlockJudged.{BlockJudged}
-use Rattle.card.specs.declared.OutJudged.{OutJudged}
-use Rattle.card.specs.declared.Stepped.{Stepped}
+use Rattle.card_blocks.proofs.Outcomes.{wrong-length, wrong-crc, past-end, protected, failed, InOutcome, unreads, refuses, stores, grants, forces, OutOutcome, unsends, past, across, sends, block-outcome, out-outcome}
+use Rattle.card_blocks.specs.BlockIn.{blockRefused, blockGood, blockJudged}
+use Rattle.card_blocks.specs.BlockOut.{outRefused, outGood, outJudged}
+use Rattle.card_blocks.specs.declared.BlockJudged.{BlockJudged}
+use Rattle.card_blocks.specs.declared.OutJudged.{OutJudged}
+use Rattle.card_blocks.specs.declared.Stepped.{Stepped}
 use Rattle.card_record.specs.Power.{poweredOn, workedState, worked}
 use Rattle.card_record.specs.Record.{withLink, withLock}
 use Rattle.card_record.specs.declared.Card.{Card}

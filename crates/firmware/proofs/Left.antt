@@ -17,19 +17,19 @@ use lib.ListN.{length, drop}
 use Rattle.base.proofs.Cases.{guarded, clash}
 use Rattle.base.specs.Refusals.{numberOf, by}
 use Rattle.base.specs.declared.Refusal.{Refusal}
-use Rattle.card.specs.BlockIn.{unread, stateJudged, blockJudged, storedBy}
-use Rattle.card.specs.BlockOut.{unsent, stateSends, outJudged, sentOut}
+use Rattle.card_blocks.specs.BlockIn.{unread, stateJudged, blockJudged, storedBy}
+use Rattle.card_blocks.specs.BlockOut.{unsent, stateSends, outJudged, sentOut}
 use Rattle.card.specs.Frame.{FrameJudged, frameRefused, framed, frameJudged, sparedTold, skipTold, spares, frameTold, changed, changedBy, commandHeard}
-use Rattle.card.specs.Replies.{replied}
+use Rattle.card_blocks.specs.Replies.{replied}
 use Rattle.card.specs.declared.Answered.{Answered}
-use Rattle.card.specs.declared.BlockJudged.{BlockJudged}
-use Rattle.card.specs.declared.OutJudged.{OutJudged}
-use Rattle.card.specs.declared.Outcome.{Outcome}
-use Rattle.card.specs.declared.Outcome.the-variants.{Done}
-use Rattle.card.specs.declared.Stepped.{Stepped}
+use Rattle.card_blocks.specs.declared.BlockJudged.{BlockJudged}
+use Rattle.card_blocks.specs.declared.OutJudged.{OutJudged}
+use Rattle.card_blocks.specs.declared.Outcome.{Outcome}
+use Rattle.card_blocks.specs.declared.Outcome.the-variants.{Done}
+use Rattle.card_blocks.specs.declared.Stepped.{Stepped}
 use Rattle.command.specs.Command.{damagedLink, commandOf}
-use Rattle.command.specs.Sending.{sentBytes}
-use Rattle.command.specs.declared.Sent.{Sent}
+use Rattle.card_record.specs.Sending.{sentBytes}
+use Rattle.card_record.specs.declared.Sent.{Sent}
 use Rattle.card_record.specs.Record.{csdProtects, withLink}
 use Rattle.card_record.specs.declared.Card.{Card}
 use Rattle.card_record.specs.declared.Link.{Link}

@@ -10,7 +10,7 @@ use native.Mathlib.Omega.{arith}
 use Rattle.card.specs.Frame.{commandHeard}
 use Rattle.card_record.specs.declared.Link.{Link}
 use Rattle.command.proofs.Sends.{sendable}
-use Rattle.command.specs.Sending.{Sendable}
+use Rattle.card_record.specs.Sending.{Sendable}
 use Rattle.command.specs.declared.Met.{Met}
 use Rattle.crc.specs.Bits.{Below}
 use Rattle.store.specs.Lent.{Seen}

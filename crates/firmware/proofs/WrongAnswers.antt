@@ -32,9 +32,9 @@ use lib.ListN.{getD, replicate}
 use Rattle.base.proofs.Cases.{never}
 use Rattle.base.specs.Refusals.{by}
 use Rattle.base.specs.declared.Written.the-variants.{Bytes, Refused as NotWritten}
-use Rattle.card.specs.BlockIn.{blockGood, requestJudged, awaitedJudged, blockJudged}
-use Rattle.card.specs.BlockOut.{outGood, protectionJudged, outJudged}
-use Rattle.card.specs.declared.Outcome.the-variants.{Wrote, Refused as Unsent}
+use Rattle.card_blocks.specs.BlockIn.{blockGood, requestJudged, awaitedJudged, blockJudged}
+use Rattle.card_blocks.specs.BlockOut.{outGood, protectionJudged, outJudged}
+use Rattle.card_blocks.specs.declared.Outcome.the-variants.{Wrote, Refused as Unsent}
 use Rattle.command.specs.Command.{damagedLink}
 use Rattle.crc.specs.Bits.{bits}
 use Rattle.crc.specs.Crc.{divide, remainder, checkSum, crc7, crc16}

@@ -7,8 +7,8 @@ use lib.Dec.{eqb}
 use lib.ListN.{length, drop, getD}
 use Rattle.base.specs.Choice.{pick}
 use Rattle.base.specs.Refusals.{numberOf}
-use Rattle.card.specs.declared.Outcome.{Outcome}
-use Rattle.card.specs.declared.Outcome.the-variants.{Done, Wrote, Refused}
+use Rattle.card_blocks.specs.declared.Outcome.{Outcome}
+use Rattle.card_blocks.specs.declared.Outcome.the-variants.{Done, Wrote, Refused}
 use Rattle.card_record.specs.declared.Making.{Making}
 use Rattle.card_record.specs.declared.Making.the-variants.{Done as Made, Refused as NotMade}
 use Rattle.command.specs.declared.Met.{Met}

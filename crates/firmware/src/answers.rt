@@ -1,5 +1,5 @@
 // What a call at a card tells C beside the record.
-use card::Outcome;
+use card_blocks::Outcome;
 use card_record::Making;
 ghost use mathlib.Core.Path.{_≡_};
 ghost use Rattle.firmware.specs.Answers.{outcomeNumber, makingNumber, leavesRecord, wroteOf};

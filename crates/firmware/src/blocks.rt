@@ -11,8 +11,8 @@ use store::Lending;
 ghost use mathlib.Core.List.{_++_};
 ghost use mathlib.Core.Path.{_≡_};
 ghost use lib.ListN.{length};
-ghost use Rattle.card.specs.BlockIn.{blockJudged};
-ghost use Rattle.card.specs.BlockOut.{outJudged};
+ghost use Rattle.card_blocks.specs.BlockIn.{blockJudged};
+ghost use Rattle.card_blocks.specs.BlockOut.{outJudged};
 ghost use Rattle.card.specs.Step.{lentAfter, outputOf};
 ghost use Rattle.card.specs.declared.Call.the-variants.{BlockIn, BlockOut};
 ghost use Rattle.crossing.specs.Record.{cardOf, linkNumbers, lockNumbers};
@@ -47,7 +47,7 @@ pub extern "C" fn mmc_parts_block_in(
         Lending::Refused(refusal) => return base::number(refusal),
     }
     let card = card_of(*numbers, *cid, *csd, *password);
-    let stepped = card::taken_in(card, block, memory, map);
+    let stepped = card_blocks::taken_in(card, block, memory, map);
     let next = stepped.card;
     let reply = stepped.reply;
     let outcome = reply.outcome;
@@ -93,7 +93,7 @@ pub extern "C" fn mmc_parts_block_out(
         Lending::Refused(refusal) => return base::number(refusal),
     }
     let card = card_of(*numbers, *cid, *csd, *password);
-    let stepped = card::given_out(card, memory, map, out);
+    let stepped = card_blocks::given_out(card, memory, map, out);
     let next = stepped.card;
     let reply = stepped.reply;
     let outcome = reply.outcome;

@@ -3,8 +3,8 @@
 use base::Refusal;
 use base::Written;
 use card_record::Registers;
+use card_record::Sent;
 use command::Met;
-use command::Sent;
 use crossing::groups_of;
 use crossing::link_of;
 use crossing::locked_of;
@@ -21,7 +21,7 @@ ghost use Rattle.card.specs.Step.{lentAfter};
 ghost use Rattle.card.specs.declared.Call.the-variants.{Frame};
 ghost use Rattle.card_record.specs.Record.{csdProtects};
 ghost use Rattle.command.specs.Command.{commandOf, damagedLink};
-ghost use Rattle.command.specs.Sending.{sentBytes, Sendable};
+ghost use Rattle.card_record.specs.Sending.{sentBytes, Sendable};
 ghost use Rattle.crossing.specs.Record.{cardOf, linkOf, linkNumbers, registersOf};
 ghost use Rattle.store.specs.Lent.{lentOf, seen};
 ghost use Rattle.firmware.specs.Answers.{outcomeNumber, metAt, numbersAfter, wonBy, fronted};
@@ -55,7 +55,7 @@ fn send(registers: Registers, sent: Sent, out: &mut [u8; 17]) -> usize
     ensures answer { λ r. ⌜ r ≡ length (sentBytes registers sent) ⌝ }
     ensures output { λ _. ⌜ now (out .exit) ≡ fronted (sentBytes registers sent) (now (out .entry)) ⌝ }
 {
-    let written = command::write_sent(registers, sent, out);
+    let written = card_record::write_sent(registers, sent, out);
     match written {
         Written::Bytes(n) => n,
         Written::Refused(_) => 0,

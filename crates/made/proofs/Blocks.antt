@@ -1,4 +1,4 @@
--- A block in and a block out keep a card made, by cases on what can become of them (crates/card/proofs/Outcomes.antt).
+-- A block in and a block out keep a card made, by cases on what can become of them (crates/card_blocks/proofs/Outcomes.antt).
 --   block-in-made, block-out-made
 -- Assumes nothing.
 use mathlib.Core.Path.{_≡_, refl, subst}
@@ -8,11 +8,11 @@ use Prim.Native.Nat.{ℕ, _+_, _*_, _/_, _≤_, _<_}
 use native.Mathlib.Omega.{arith}
 use Rattle.base.proofs.Cases.{clash}
 use Rattle.base.specs.declared.Refusal.{Refusal}
-use Rattle.card.proofs.Outcomes.{Refuses, wrong-length, wrong-crc, past-end, protected, failed, askedOf, InOutcome, unreads, refuses, stores, grants, forces, OutOutcome, unsends, past, across, sends, block-outcome, out-outcome}
-use Rattle.card.specs.BlockIn.{afterRefused, afterStored, withFault, blockRefused, blockGood, blockJudged}
-use Rattle.card.specs.BlockOut.{outRefused, outGood, afterSent, outJudged}
-use Rattle.card.specs.declared.BlockJudged.{BlockJudged}
-use Rattle.card.specs.declared.OutJudged.{OutJudged}
+use Rattle.card_blocks.proofs.Outcomes.{Refuses, wrong-length, wrong-crc, past-end, protected, failed, askedOf, InOutcome, unreads, refuses, stores, grants, forces, OutOutcome, unsends, past, across, sends, block-outcome, out-outcome}
+use Rattle.card_blocks.specs.BlockIn.{afterRefused, afterStored, withFault, blockRefused, blockGood, blockJudged}
+use Rattle.card_blocks.specs.BlockOut.{outRefused, outGood, afterSent, outJudged}
+use Rattle.card_blocks.specs.declared.BlockJudged.{BlockJudged}
+use Rattle.card_blocks.specs.declared.OutJudged.{OutJudged}
 use Rattle.lock.specs.declared.Lock.{Lock}
 use Rattle.card_record.specs.Record.{sizeOf, csdProtects, withState, withErrors, withLink, withLock}
 use Rattle.card_record.specs.declared.Card.{Card}

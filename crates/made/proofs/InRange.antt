@@ -8,12 +8,12 @@ use native.Mathlib.Omega.{arith}
 use Rattle.base.proofs.Cases.{clash}
 use Rattle.base.specs.Refusals.{numberOf, refusalOf}
 use Rattle.base.specs.declared.Refusal.{Refusal}
-use Rattle.card.proofs.Outcomes.{one, only, sectors, Refuses, wrong-length, wrong-crc, past-end, protected, failed, InOutcome, unreads, refuses, stores, grants, forces, block-outcome}
-use Rattle.card.specs.BlockIn.{sectorAt, blockRefused, blockGood}
+use Rattle.card_blocks.proofs.Outcomes.{one, only, sectors, Refuses, wrong-length, wrong-crc, past-end, protected, failed, InOutcome, unreads, refuses, stores, grants, forces, block-outcome}
+use Rattle.card_blocks.specs.BlockIn.{sectorAt, blockRefused, blockGood}
 use Rattle.card.specs.Step.{stepOf}
-use Rattle.card.specs.declared.BlockJudged.{BlockJudged}
+use Rattle.card_blocks.specs.declared.BlockJudged.{BlockJudged}
 use Rattle.card.specs.declared.Call.the-variants.{BlockIn}
-use Rattle.card.specs.declared.Outcome.the-variants.{Refused}
+use Rattle.card_blocks.specs.declared.Outcome.the-variants.{Refused}
 use Rattle.moves.proofs.Among.{each}
 use Rattle.card_record.specs.declared.Card.{Card}
 use Rattle.states.specs.declared.Incoming.{Incoming}

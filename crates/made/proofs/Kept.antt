@@ -6,16 +6,17 @@ use mathlib.Core.Path.{_≡_, refl}
 use mathlib.Core.Bool.{Bool}
 use mathlib.Core.List.{List}
 use Prim.Native.Nat.{ℕ}
-use Rattle.card.proofs.Outcomes.{InOutcome, unreads, refuses, stores, grants, forces, OutOutcome, unsends, past, across, sends, FrameOutcome, unheard, damaged, commands, block-outcome, out-outcome, frame-outcome, told}
-use Rattle.card.specs.BlockIn.{blockRefused, blockGood}
-use Rattle.card.specs.BlockOut.{outRefused, outGood}
+use Rattle.card_blocks.proofs.Outcomes.{InOutcome, unreads, refuses, stores, grants, forces, OutOutcome, unsends, past, across, sends, block-outcome, out-outcome}
+use Rattle.card.proofs.Outcomes.{FrameOutcome, unheard, damaged, commands, frame-outcome, told}
+use Rattle.card_blocks.specs.BlockIn.{blockRefused, blockGood}
+use Rattle.card_blocks.specs.BlockOut.{outRefused, outGood}
 use Rattle.card.specs.Frame.{FrameJudged, frameJudged, spares, frameStepped}
 use Rattle.card.specs.Step.{stepOf}
-use Rattle.card.specs.declared.BlockJudged.{BlockJudged}
+use Rattle.card_blocks.specs.declared.BlockJudged.{BlockJudged}
 use Rattle.card.specs.declared.Call.{Call}
 use Rattle.card.specs.declared.Call.the-variants.{Frame, BlockIn, BlockOut, WorkDone, PowerOn}
-use Rattle.card.specs.declared.OutJudged.{OutJudged}
-use Rattle.card.specs.declared.Stepped.{Stepped}
+use Rattle.card_blocks.specs.declared.OutJudged.{OutJudged}
+use Rattle.card_blocks.specs.declared.Stepped.{Stepped}
 use Rattle.card_record.specs.Power.{poweredOn, worked}
 use Rattle.card_record.specs.declared.Card.{Card}
 use Rattle.store.specs.Lent.{Seen}

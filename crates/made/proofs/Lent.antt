@@ -16,13 +16,13 @@ use Rattle.base.proofs.Cases.{guarded, clash, first, last}
 use Rattle.base.specs.Choice.{pick}
 use Rattle.base.specs.Refusals.{by}
 use Rattle.base.specs.declared.Refusal.{Refusal}
-use Rattle.card.specs.BlockIn.{storedBy, blockJudged}
+use Rattle.card_blocks.specs.BlockIn.{storedBy, blockJudged}
 use Rattle.card.specs.Frame.{frameJudged, changedBy}
 use Rattle.card.specs.Step.{lentAfter}
 use Rattle.card.specs.declared.Call.{Call}
 use Rattle.card.specs.declared.Call.the-variants.{Frame, BlockIn, BlockOut, WorkDone, PowerOn}
-use Rattle.card.specs.declared.Storing.{Storing}
-use Rattle.card.specs.declared.Storing.the-variants.{Nothing as Unstored, Sector, All}
+use Rattle.card_blocks.specs.declared.Storing.{Storing}
+use Rattle.card_blocks.specs.declared.Storing.the-variants.{Nothing as Unstored, Sector, All}
 use Rattle.command.specs.declared.Change.{Change}
 use Rattle.command.specs.declared.Change.the-variants.{Nothing, Protect, Erase}
 use Rattle.lock.specs.Passwords.{lockMade as lockMadeOf}

@@ -11,17 +11,17 @@ use lib.ListN.{length, take}
 use Rattle.base.proofs.Cases.{guarded, clash}
 use Rattle.base.specs.Refusals.{by}
 use Rattle.card.proofs.Outcomes.{told}
-use Rattle.card.specs.BlockIn.{beside, awaitedLength, blockRefused, blockGood, writeJudged, lockJudged, requestJudged, carriedOut, awaitedJudged, stateJudged, blockJudged}
-use Rattle.card.specs.BlockOut.{outRefused, outGood, partJudged, protectionJudged, outgoingJudged, stateSends, outJudged}
+use Rattle.card_blocks.specs.BlockIn.{beside, awaitedLength, blockRefused, blockGood, writeJudged, lockJudged, requestJudged, carriedOut, awaitedJudged, stateJudged, blockJudged}
+use Rattle.card_blocks.specs.BlockOut.{outRefused, outGood, partJudged, protectionJudged, outgoingJudged, stateSends, outJudged}
 use Rattle.card.specs.Frame.{FrameJudged, framed, frameJudged, spares, frameStepped}
 use Rattle.card.specs.Step.{stepOf}
-use Rattle.card.specs.declared.BlockJudged.{BlockJudged}
+use Rattle.card_blocks.specs.declared.BlockJudged.{BlockJudged}
 use Rattle.card.specs.declared.Call.{Call}
 use Rattle.card.specs.declared.Call.the-variants.{Frame, BlockIn, BlockOut, WorkDone, PowerOn}
-use Rattle.card.specs.declared.OutJudged.{OutJudged}
-use Rattle.card.specs.declared.Outcome.{Outcome}
-use Rattle.card.specs.declared.Outcome.the-variants.{Refused}
-use Rattle.card.specs.declared.Stepped.{Stepped}
+use Rattle.card_blocks.specs.declared.OutJudged.{OutJudged}
+use Rattle.card_blocks.specs.declared.Outcome.{Outcome}
+use Rattle.card_blocks.specs.declared.Outcome.the-variants.{Refused}
+use Rattle.card_blocks.specs.declared.Stepped.{Stepped}
 use Rattle.crc.specs.Bits.{bits}
 use Rattle.crc.specs.Crc.{crc16}
 use Rattle.lock.specs.Requests.{requestOf}

@@ -21,7 +21,7 @@ use Rattle.card.specs.Frame.{FrameJudged, frameJudged, spares, sparedTold, fram
 use Rattle.card.specs.Step.{stepOf}
 use Rattle.card.specs.declared.Call.{Call}
 use Rattle.card.specs.declared.Call.the-variants.{Frame, BlockIn, BlockOut, WorkDone, PowerOn}
-use Rattle.card.specs.declared.Stepped.{Stepped}
+use Rattle.card_blocks.specs.declared.Stepped.{Stepped}
 use Rattle.command.specs.Command.{metBy, damagedLink, commandOf}
 use Rattle.lock.specs.Passwords.{poweredOf, lockMade as lockMadeOf}
 use Rattle.lock.specs.declared.Making.the-variants.{Done as LockDone, Refused as LockRefused}

@@ -6,7 +6,7 @@ use Prim.Native.Nat.{ℕ}
 use lib.ListN.{length}
 use Rattle.card.specs.Step.{stepOf, lentAfter, outputOf}
 use Rattle.card.specs.declared.Call.{Call}
-use Rattle.card.specs.declared.Outcome.{Outcome}
+use Rattle.card_blocks.specs.declared.Outcome.{Outcome}
 use Rattle.card_record.specs.Making.{madeOf}
 use Rattle.card_record.specs.declared.Card.{Card}
 use Rattle.card_record.specs.declared.Made.{Made}

@@ -16,7 +16,7 @@ use lib.ListN.{length, getD}
 use Rattle.base.proofs.Cases.{clash}
 use Rattle.base.specs.Refusals.{refusalOf}
 use Rattle.card.specs.Frame.{frameJudged, frameStepped as cardFrameOf}
-use Rattle.command.specs.Sending.{sentBytes}
+use Rattle.card_record.specs.Sending.{sentBytes}
 use Rattle.command.specs.Answers.{responseOf, answered}
 use Rattle.command.specs.Arguments.{argumentFault}
 use Rattle.command.specs.Command.{takenOf, commandOf}

@@ -2,7 +2,7 @@
 -- Assumes nothing.
 use mathlib.Core.Path.{_≡_, refl}
 use Rattle.bus.specs.Bus.{withCards, emptyBus, addedTo, commandAt, cardAfter, frameFrom, anyReady, longestOf, cidLine, andLine, lineOf, padded, commandFor, busFrame}
-use Rattle.command.specs.Sending.{sentBytes}
+use Rattle.card_record.specs.Sending.{sentBytes}
 use Rattle.command.specs.Answers.{responseOf, answered}
 use Rattle.command.specs.Arguments.{argumentFault}
 use Rattle.command.specs.Command.{takenOf, commandOf}

@@ -19,7 +19,7 @@ use Rattle.bus.specs.declared.Shown.the-variants.{Refused}
 use Rattle.card.specs.Frame.{FrameJudged, framed, frameTold, frameStepped}
 use Rattle.card.specs.Step.{stepOf}
 use Rattle.card.specs.declared.Call.the-variants.{Frame}
-use Rattle.card.specs.declared.Stepped.{Stepped}
+use Rattle.card_blocks.specs.declared.Stepped.{Stepped}
 use Rattle.command.specs.Command.{metBy}
 use Rattle.command.specs.Obey.{changeOf}
 use Rattle.command.specs.declared.Change.the-variants.{Nothing}

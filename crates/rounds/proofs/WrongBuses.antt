@@ -20,7 +20,7 @@ use Rattle.bus.specs.Bus.{cardsOf, withCards, commandAt, cardAfter, frameFrom, 
 use Rattle.bus.specs.declared.Bus.{Bus}
 use Rattle.bus.specs.declared.Shown.{Shown}
 use Rattle.bus.specs.declared.Shown.the-variants.{Line, Silent}
-use Rattle.command.specs.Sending.{sentBytes}
+use Rattle.card_record.specs.Sending.{sentBytes}
 use Rattle.command.specs.Answers.{responseOf, answered}
 use Rattle.command.specs.Arguments.{argumentFault}
 use Rattle.command.specs.Command.{metBy, takenOf, commandOf}

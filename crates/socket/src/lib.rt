@@ -3,8 +3,8 @@
 //
 // Offers: `socket`, `step_in_place`.
 use card::Call;
-use card::Reply;
-use card::Stepped;
+use card_blocks::Reply;
+use card_blocks::Stepped;
 use card_record::Card;
 ghost use mathlib.Core.Path.{_≡_};
 ghost use lib.ListN.{length};

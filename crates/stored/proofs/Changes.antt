@@ -15,13 +15,13 @@ use lib.ListN.{length, getD}
 use lib.Seq.{getD-set-other}
 use Rattle.base.specs.Choice.{pick}
 use Rattle.base.proofs.Cases.{cases, first, last}
-use Rattle.card.proofs.Outcomes.{WritesAt, one, many, askedOf, InOutcome, unreads, refuses, stores, grants, forces, block-outcome}
-use Rattle.card.specs.BlockIn.{blockRefused, blockGood, blockJudged, storedBy}
+use Rattle.card_blocks.proofs.Outcomes.{WritesAt, one, many, askedOf, InOutcome, unreads, refuses, stores, grants, forces, block-outcome}
+use Rattle.card_blocks.specs.BlockIn.{blockRefused, blockGood, blockJudged, storedBy}
 use Rattle.card.specs.Frame.{frameJudged, changedBy}
-use Rattle.card.specs.declared.BlockJudged.{BlockJudged}
+use Rattle.card_blocks.specs.declared.BlockJudged.{BlockJudged}
 use Rattle.card.specs.declared.Call.{Call}
 use Rattle.card.specs.declared.Call.the-variants.{Frame, BlockIn, BlockOut, WorkDone, PowerOn}
-use Rattle.card.specs.declared.Storing.the-variants.{All}
+use Rattle.card_blocks.specs.declared.Storing.the-variants.{All}
 use Rattle.command.specs.declared.Change.{Change}
 use Rattle.lock.specs.declared.Answer.the-variants.{Erased}
 use Rattle.card_record.specs.Record.{csdProtects}

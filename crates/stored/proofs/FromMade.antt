@@ -16,7 +16,7 @@ use lib.ListN.{length}
 use Rattle.base.proofs.Cases.{opposite}
 use Rattle.card.specs.Step.{stepOf}
 use Rattle.card.specs.declared.Call.{Call}
-use Rattle.card.specs.declared.Outcome.the-variants.{Done}
+use Rattle.card_blocks.specs.declared.Outcome.the-variants.{Done}
 use Rattle.lock.proofs.Stored.{stored-length}
 use Rattle.made.specs.Made.{Waits, Awaits, Made}
 use Rattle.made.specs.Run.{World, outcomeOf}

@@ -12,10 +12,10 @@ use borrow.Author.Tests.{lt-ltb, eq-eqb}
 use lib.Dec.{eqb}
 use lib.ListN.{length, take}
 use lib.Seq.{take-at}
-use Rattle.card.proofs.Outcomes.{WritesAt, one, many}
-use Rattle.card.specs.BlockIn.{blockGood, writeJudged, awaitedJudged, blockJudged}
-use Rattle.card.specs.declared.BlockJudged.{BlockJudged}
-use Rattle.card.specs.declared.Outcome.the-variants.{Done}
+use Rattle.card_blocks.proofs.Outcomes.{WritesAt, one, many}
+use Rattle.card_blocks.specs.BlockIn.{blockGood, writeJudged, awaitedJudged, blockJudged}
+use Rattle.card_blocks.specs.declared.BlockJudged.{BlockJudged}
+use Rattle.card_blocks.specs.declared.Outcome.the-variants.{Done}
 use Rattle.crc.specs.Crc.{crc16}
 use Rattle.made.specs.Run.{World, outcomeOf, outputAfter}
 use Rattle.card_record.specs.Record.{sizeOf}

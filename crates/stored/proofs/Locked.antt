@@ -17,19 +17,20 @@ use lib.Dec.{eqb}
 use lib.ListN.{length, getD}
 use Rattle.base.proofs.Cases.{cases, picked, clash, opposite}
 use Rattle.base.specs.Refusals.{by}
-use Rattle.card.proofs.Outcomes.{InOutcome, unreads, refuses, stores, grants, forces, FrameOutcome, unheard, damaged, commands, block-outcome, frame-outcome, told}
-use Rattle.card.specs.BlockIn.{blockRefused, blockGood, blockJudged}
+use Rattle.card_blocks.proofs.Outcomes.{InOutcome, unreads, refuses, stores, grants, forces, block-outcome}
+use Rattle.card.proofs.Outcomes.{FrameOutcome, unheard, damaged, commands, frame-outcome, told}
+use Rattle.card_blocks.specs.BlockIn.{blockRefused, blockGood, blockJudged}
 use Rattle.card.specs.Frame.{FrameJudged, frameRefused, commanded, spares, frameJudged, frameStepped, changedBy}
 use Rattle.card.specs.Step.{stepOf}
-use Rattle.card.specs.declared.BlockJudged.{BlockJudged}
+use Rattle.card_blocks.specs.declared.BlockJudged.{BlockJudged}
 use Rattle.card.specs.declared.Call.{Call}
 use Rattle.card.specs.declared.Call.the-variants.{Frame, BlockIn, BlockOut, WorkDone, PowerOn}
-use Rattle.card.specs.declared.Stepped.{Stepped}
+use Rattle.card_blocks.specs.declared.Stepped.{Stepped}
 use Rattle.command.specs.Command.{metBy, damagedLink}
 use Rattle.command.specs.Obey.{passesLock}
 use Rattle.command.specs.declared.Change.{Change}
 use Rattle.command.specs.declared.Change.the-variants.{Nothing, Protect, Erase}
-use Rattle.command.specs.declared.Sent.{Sent}
+use Rattle.card_record.specs.declared.Sent.{Sent}
 use Rattle.lock.specs.Passwords.{stored, poweredOf}
 use Rattle.lock.specs.Requests.{presented}
 use Rattle.lock.specs.declared.Answer.the-variants.{Granted}

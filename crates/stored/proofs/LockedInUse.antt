@@ -14,19 +14,19 @@ use mathlib.Core.List.{List, [], _∷_, _++_, map}
 use Prim.Native.Nat.{ℕ}
 use lib.ListN.{replicate}
 use Rattle.base.specs.Refusals.{by}
-use Rattle.card.specs.BlockIn.{blockRefused, blockGood, requestJudged, awaitedJudged, blockJudged, storedBy}
+use Rattle.card_blocks.specs.BlockIn.{blockRefused, blockGood, requestJudged, awaitedJudged, blockJudged, storedBy}
 use Rattle.card.specs.Frame.{frameJudged, frameStepped}
-use Rattle.card.specs.Replies.{refused, done}
+use Rattle.card_blocks.specs.Replies.{refused, done}
 use Rattle.card.specs.Step.{stepOf}
-use Rattle.card.specs.declared.BlockJudged.{BlockJudged}
+use Rattle.card_blocks.specs.declared.BlockJudged.{BlockJudged}
 use Rattle.card.specs.declared.Call.the-variants.{Frame, BlockIn}
-use Rattle.card.specs.declared.Outcome.the-variants.{Done, Refused}
-use Rattle.card.specs.declared.Storing.the-variants.{Nothing}
+use Rattle.card_blocks.specs.declared.Outcome.the-variants.{Done, Refused}
+use Rattle.card_blocks.specs.declared.Storing.the-variants.{Nothing}
 use Rattle.command.specs.Answers.{responseOf, answered}
 use Rattle.command.specs.Arguments.{argumentFault}
 use Rattle.command.specs.Command.{takenOf, commandOf}
 use Rattle.command.specs.Obey.{taggingOf, judgedOf, resetTold, awaitedBy, obeyed, changeOf, afterChecks, actedOf}
-use Rattle.command.specs.declared.Sent.the-variants.{Status}
+use Rattle.card_record.specs.declared.Sent.the-variants.{Status}
 use Rattle.crc.specs.Bits.{bits}
 use Rattle.crc.specs.Crc.{divide, remainder, checkSum, crc16}
 use Rattle.lock.specs.Passwords.{stored, same, holding, poweredOf, lockMade as lockMadeOf}

@@ -14,13 +14,13 @@ use lib.Dec.{eqb}
 use lib.ListN.{getD}
 use lib.Seq.{ext-getD}
 use Rattle.base.proofs.Cases.{cases, clash, opposite}
-use Rattle.card.proofs.Outcomes.{WritesAt, one, many, only, InOutcome, unreads, refuses, stores, grants, forces, block-outcome}
-use Rattle.card.specs.BlockIn.{blockRefused, blockGood, blockJudged}
+use Rattle.card_blocks.proofs.Outcomes.{WritesAt, one, many, only, InOutcome, unreads, refuses, stores, grants, forces, block-outcome}
+use Rattle.card_blocks.specs.BlockIn.{blockRefused, blockGood, blockJudged}
 use Rattle.card.specs.Step.{lentAfter}
-use Rattle.card.specs.declared.BlockJudged.{BlockJudged}
+use Rattle.card_blocks.specs.declared.BlockJudged.{BlockJudged}
 use Rattle.card.specs.declared.Call.{Call}
-use Rattle.card.specs.declared.Outcome.the-variants.{Done}
-use Rattle.card.specs.declared.Storing.the-variants.{All}
+use Rattle.card_blocks.specs.declared.Outcome.the-variants.{Done}
+use Rattle.card_blocks.specs.declared.Storing.the-variants.{All}
 use Rattle.made.proofs.Run.{lent-lengths}
 use Rattle.card_record.specs.Record.{csdProtects}
 use Rattle.card_record.specs.declared.Card.{Card}

@@ -11,16 +11,16 @@ use borrow.Author.Tests.{le-leb, le-ltb}
 use lib.ListN.{length, take, drop, length-append, length-drop}
 use lib.Seq.{length-take-le, take-at}
 use Rattle.base.proofs.Cases.{clash}
-use Rattle.card.proofs.Outcomes.{WritesAt, one, many, only, Storable, InOutcome, unreads, refuses, stores, grants, forces, block-outcome}
-use Rattle.card.specs.BlockIn.{afterStored, blockRefused, blockGood, blockJudged, storedBy}
-use Rattle.card.specs.BlockOut.{partJudged, outGood, outJudged, partSent, sentOut}
-use Rattle.card.specs.declared.BlockJudged.{BlockJudged}
+use Rattle.card_blocks.proofs.Outcomes.{WritesAt, one, many, only, Storable, InOutcome, unreads, refuses, stores, grants, forces, block-outcome}
+use Rattle.card_blocks.specs.BlockIn.{afterStored, blockRefused, blockGood, blockJudged, storedBy}
+use Rattle.card_blocks.specs.BlockOut.{partJudged, outGood, outJudged, partSent, sentOut}
+use Rattle.card_blocks.specs.declared.BlockJudged.{BlockJudged}
 use Rattle.card.specs.declared.Call.the-variants.{WorkDone}
-use Rattle.card.specs.declared.OutJudged.{OutJudged}
-use Rattle.card.specs.declared.Outcome.the-variants.{Done, Wrote}
-use Rattle.card.specs.declared.Sending.the-variants.{Part}
-use Rattle.card.specs.declared.Stepped.{Stepped}
-use Rattle.card.specs.declared.Storing.the-variants.{Sector}
+use Rattle.card_blocks.specs.declared.OutJudged.{OutJudged}
+use Rattle.card_blocks.specs.declared.Outcome.the-variants.{Done, Wrote}
+use Rattle.card_blocks.specs.declared.Sending.the-variants.{Part}
+use Rattle.card_blocks.specs.declared.Stepped.{Stepped}
+use Rattle.card_blocks.specs.declared.Storing.the-variants.{Sector}
 use Rattle.command.specs.Command.{metBy, commandOf}
 use Rattle.crc.specs.Crc.{crc16}
 use Rattle.demands.proofs.Frames.{unlent}

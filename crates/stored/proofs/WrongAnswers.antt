@@ -23,12 +23,12 @@ use native.Mathlib.Omega.{arith}
 use lib.ListN.{length, getD, replicate}
 use Rattle.base.proofs.Cases.{clash, never, opposite}
 use Rattle.base.specs.declared.Refusal.{Refusal}
-use Rattle.card.specs.BlockIn.{blockGood, writeJudged, requestJudged, awaitedJudged, blockJudged}
+use Rattle.card_blocks.specs.BlockIn.{blockGood, writeJudged, requestJudged, awaitedJudged, blockJudged}
 use Rattle.card.specs.Frame.{frameJudged}
 use Rattle.card.specs.Step.{stepOf, lentAfter}
 use Rattle.card.specs.declared.Call.{Call}
 use Rattle.card.specs.declared.Call.the-variants.{Frame, BlockIn, BlockOut, WorkDone, PowerOn}
-use Rattle.card.specs.declared.Outcome.the-variants.{Refused}
+use Rattle.card_blocks.specs.declared.Outcome.the-variants.{Refused}
 use Rattle.command.specs.Answers.{answered}
 use Rattle.command.specs.Arguments.{argumentFault}
 use Rattle.command.specs.Command.{takenOf, commandOf}

@@ -7,13 +7,13 @@ use mathlib.Core.Logic.{_⊎_}
 use Prim.Native.Nat.{ℕ, _/_}
 use lib.ListN.{getD}
 use Rattle.base.specs.Sizes.{sectorSize, protectionGroupSize}
-use Rattle.card.specs.BlockIn.{blockJudged}
+use Rattle.card_blocks.specs.BlockIn.{blockJudged}
 use Rattle.card.specs.Frame.{frameJudged}
 use Rattle.card.specs.Step.{stepOf, lentAfter}
 use Rattle.card.specs.declared.Call.{Call}
 use Rattle.card.specs.declared.Call.the-variants.{Frame, BlockIn}
-use Rattle.card.specs.declared.Outcome.the-variants.{Done}
-use Rattle.card.specs.declared.Storing.the-variants.{All}
+use Rattle.card_blocks.specs.declared.Outcome.the-variants.{Done}
+use Rattle.card_blocks.specs.declared.Storing.the-variants.{All}
 use Rattle.command.specs.declared.Change.the-variants.{Protect, Erase}
 use Rattle.card_record.specs.Record.{csdProtects}
 use Rattle.card_record.specs.declared.Card.{Card}

@@ -8,7 +8,7 @@ use lib.ListN.{length, getD}
 use Rattle.card.specs.Step.{stepOf, lentAfter}
 use Rattle.card.specs.declared.Call.{Call}
 use Rattle.card.specs.declared.Call.the-variants.{Frame, BlockIn, PowerOn}
-use Rattle.card.specs.declared.Outcome.the-variants.{Done}
+use Rattle.card_blocks.specs.declared.Outcome.the-variants.{Done}
 use Rattle.lock.specs.Passwords.{stored}
 use Rattle.lock.specs.Requests.{passwordIn}
 use Rattle.card_record.specs.declared.Card.{Card}

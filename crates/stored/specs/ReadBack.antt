@@ -7,7 +7,7 @@ use Prim.Native.Nat.{ℕ, _+_, _/_, _%_, _^_, _≤_, _<_}
 use lib.ListN.{take}
 use Rattle.base.specs.Sizes.{sectorSize}
 use Rattle.card.specs.declared.Call.the-variants.{Frame, BlockIn, BlockOut, WorkDone}
-use Rattle.card.specs.declared.Outcome.the-variants.{Wrote}
+use Rattle.card_blocks.specs.declared.Outcome.the-variants.{Wrote}
 use Rattle.card_record.specs.Record.{sizeOf, csdProtects}
 use Rattle.card_record.specs.declared.Card.{Card}
 use Rattle.made.specs.Run.{World, Input, given, next, outcomeOf, outputAfter}

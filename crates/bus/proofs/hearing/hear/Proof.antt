@@ -9,9 +9,9 @@ use lib.ListN.{length, take, drop}
 use lib.Seq.{take-at}
 use Rattle.base.specs.Output.{laid}
 use Rattle.base.specs.declared.Written.{Written}
-use Rattle.command.specs.Sending.{sentBytes}
+use Rattle.card_record.specs.Sending.{sentBytes}
 use Rattle.shared_line.specs.Bytes.{anded}
-use Rattle.command.proofs.Sends.{written-bytes, never-refused}
+use Rattle.card_record.proofs.Writes.{written-bytes, never-refused}
 use Rattle.bus.proofs.Telling.{zeros}
 use Rattle.bus.specs.Hearing.{heardOf}
 use Rattle.bus.specs.declared.Heard.{Heard}

@@ -6,7 +6,7 @@ use Prim.Native.Nat.{ℕ}
 use borrow.Author.Needs.{needs}
 use Rattle.command.proofs.Sends.{sendable}
 use Rattle.command.specs.Command.{metBy, receivedOf, movedBy, commandOf, decidedOf}
-use Rattle.command.specs.Sending.{sentBytes, Sendable}
+use Rattle.card_record.specs.Sending.{sentBytes, Sendable}
 use Rattle.command.specs.declared.Commanded.{Commanded}
 use Rattle.command.specs.declared.Decided.{Decided}
 use Rattle.command.specs.declared.Met.{Met}

@@ -11,9 +11,9 @@ use Rattle.card_record.specs.Record.{csdProtects, withLink}
 use Rattle.card_record.specs.declared.Card.{Card}
 use Rattle.store.specs.Lent.{Seen, lentOf, seen}
 use Rattle.card.specs.Frame.{commanded, spares, skipTold, sparedTold, frameTold, changed, commandHeard}
-use Rattle.card.specs.Replies.{replied}
+use Rattle.card_blocks.specs.Replies.{replied}
 use Rattle.card.specs.declared.Answered.{Answered}
-use Rattle.card.specs.declared.Outcome.the-variants.{Done}
+use Rattle.card_blocks.specs.declared.Outcome.the-variants.{Done}
 use Rattle.card.proofs.frames.commanded.Statement.{statement}
 use Rattle.card.proofs.frames.commanded.Tie as tie
 

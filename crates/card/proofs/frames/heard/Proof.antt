@@ -10,7 +10,7 @@ use Rattle.command.specs.Command.{commandOf}
 use Rattle.command.specs.declared.Change.{Change}
 use Rattle.command.specs.declared.Commanded.{Commanded}
 use Rattle.command.specs.declared.Met.{Met}
-use Rattle.command.specs.declared.Sent.{Sent}
+use Rattle.card_record.specs.declared.Sent.{Sent}
 use Rattle.card_record.specs.declared.Link.{Link}
 use Rattle.store.specs.Lent.{Seen, lentOf, seen}
 use Rattle.card.specs.Frame.{sparing, skipTold, changed, commandHeard}

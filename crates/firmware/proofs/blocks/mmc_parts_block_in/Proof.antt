@@ -3,8 +3,8 @@
 use mathlib.Core.Path.{sym, ap, _∙_}
 use borrow.Author.Needs.{needs}
 use denote.Ref.{now}
-use Rattle.card.specs.BlockIn.{stateJudged, storedBy}
-use Rattle.card.specs.declared.BlockJudged.{BlockJudged}
+use Rattle.card_blocks.specs.BlockIn.{stateJudged, storedBy}
+use Rattle.card_blocks.specs.declared.BlockJudged.{BlockJudged}
 use Rattle.card_record.specs.declared.Card.{Card}
 use Rattle.store.specs.Lent.{lentOf}
 use Rattle.firmware.proofs.Left.{lent-by, in-judged, in-unlent, in-left, in-told}

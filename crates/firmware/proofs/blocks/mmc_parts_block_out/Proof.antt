@@ -4,8 +4,8 @@ use mathlib.Core.Path.{sym, ap, _∙_}
 use borrow.Author.Needs.{needs}
 use denote.Ref.{now}
 use lib.ListN.{length}
-use Rattle.card.specs.BlockOut.{stateSends, sentOut}
-use Rattle.card.specs.declared.OutJudged.{OutJudged}
+use Rattle.card_blocks.specs.BlockOut.{stateSends, sentOut}
+use Rattle.card_blocks.specs.declared.OutJudged.{OutJudged}
 use Rattle.card_record.specs.declared.Card.{Card}
 use Rattle.store.specs.Lent.{lentOf}
 use Rattle.firmware.proofs.Left.{lent-by, out-judged, out-unlent, out-left, out-told}

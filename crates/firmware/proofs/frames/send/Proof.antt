@@ -7,8 +7,8 @@ use denote.Ref.{now}
 use lib.ListN.{length}
 use Rattle.base.specs.Output.{laid}
 use Rattle.base.specs.declared.Written.{Written}
-use Rattle.command.proofs.Sends.{written-bytes, never-refused}
-use Rattle.command.specs.Sending.{sentBytes}
+use Rattle.card_record.proofs.Writes.{written-bytes, never-refused}
+use Rattle.card_record.specs.Sending.{sentBytes}
 use Rattle.firmware.proofs.frames.send.Statement.{statement}
 use Rattle.firmware.proofs.frames.send.Tie as tie
 

@@ -48,16 +48,16 @@ use Rattle.card.specs.Step.{stepOf, lentAfter, outputOf}
 use Rattle.store.specs.Lent.{lentOf, seen}
 use Rattle.card_record.specs.declared.Card.{Card}
 use Rattle.card.specs.declared.Call.{Call}
-use Rattle.card.specs.declared.Stepped.{Stepped}
-use Rattle.card.specs.declared.Reply.{Reply}
+use Rattle.card_blocks.specs.declared.Stepped.{Stepped}
+use Rattle.card_blocks.specs.declared.Reply.{Reply}
 use Rattle.card_record.proofs.Card as T
 use Rattle.card_record.proofs.Card.Laws as T′
 use Rattle.card.proofs.Call as Q
 use Rattle.card.proofs.Call.Laws as Q′
-use Rattle.card.proofs.Stepped as K
-use Rattle.card.proofs.Stepped.Laws as K′
-use Rattle.card.proofs.Reply as R
-use Rattle.card.proofs.Reply.Laws as R′
+use Rattle.card_blocks.proofs.Stepped as K
+use Rattle.card_blocks.proofs.Stepped.Laws as K′
+use Rattle.card_blocks.proofs.Reply as R
+use Rattle.card_blocks.proofs.Reply.Laws as R′
 use Rattle.card.proofs.step as step
 use Rattle.card.proofs.step.Symbol.{name as #card·step}
 use Rattle.socket.proofs.Walk.{both, tells-all, Typed, socket-code, walks}

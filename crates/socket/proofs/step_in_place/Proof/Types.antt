@@ -26,15 +26,15 @@ use denote.Triple.Spec.{tripleOf}
 use denote.Triple.Walked.{Stays, stay-dropped, gave-slice}
 use denote.Exit.{yes}
 use Rattle.card_record.specs.declared.Card.{Card}
-use Rattle.card.specs.declared.Stepped.{Stepped}
-use Rattle.card.specs.declared.Reply.{Reply}
+use Rattle.card_blocks.specs.declared.Stepped.{Stepped}
+use Rattle.card_blocks.specs.declared.Reply.{Reply}
 use Rattle.card_record.proofs.Card as T
 use Rattle.card_record.proofs.Card.Laws as T′
 use Rattle.card.proofs.Call as Q
-use Rattle.card.proofs.Stepped as K
-use Rattle.card.proofs.Stepped.Laws as K′
-use Rattle.card.proofs.Reply as R
-use Rattle.card.proofs.Reply.Laws as R′
+use Rattle.card_blocks.proofs.Stepped as K
+use Rattle.card_blocks.proofs.Stepped.Laws as K′
+use Rattle.card_blocks.proofs.Reply as R
+use Rattle.card_blocks.proofs.Reply.Laws as R′
 use Rattle.socket.proofs.socket as socket
 use Rattle.socket.proofs.socket.Key.{name as #socket·socket}
 use Rattle.socket.proofs.InPlace.{place-code}

@@ -1,0 +1,3 @@
+pub mod BlockIn
+pub mod BlockOut
+pub mod Replies
