@@ -1,5 +1,6 @@
 pub mod AnsweredInSpi
 pub mod Blind
+pub mod BlocksIn
 pub mod Examples
 pub mod Faulted
 pub mod Frames

@@ -1,3 +1,4 @@
+pub mod BlocksIn
 pub mod Faulted
 pub mod InSpi
 pub mod Refused
