@@ -1,13 +1,12 @@
 -- Every command of SPI keeps a card made: what a taken one does (`acted-made`), with the two parts that are the mode's own; and so does a
 -- command in either mode, with the select line low or high.
---   leading       the table of moves of SPI is `Leading`
 --   left-waits    the error bits that an answer in SPI leaves can wait there
 --   heard-made    after a command of any index and argument, whatever the line, in MMC mode and in SPI
 --   damaged-heard-made   and after a frame whose CRC7 is wrong and counts
 -- Assumes nothing.
 use mathlib.Core.Path.{_≡_, refl, sym, ap, ap₂, _∙_, subst, subst⁻¹}
 use mathlib.Core.Bool.{Bool, true, false, not, _&&_, _||_}
-use mathlib.Core.List.{List, [], _∷_}
+use mathlib.Core.List.{[], _∷_}
 use Prim.Native.Nat.{ℕ, _^_}
 use borrow.Author.Tests.{eqb-true}
 use lib.Bits.{bitAnd, bitOr}
@@ -21,28 +20,26 @@ use Rattle.command.specs.Command.{damagedLink, commandOf}
 use Rattle.command.specs.Obey.{dropsTags, judgedOf, resetTold, stateAt, awaitedBy, obeyed, afterChecks, actedOf}
 use Rattle.command.specs.declared.Acted.{Acted}
 use Rattle.command.specs.declared.Met.{Met}
-use Rattle.moves.proofs.Among.{each}
 use Rattle.moves.specs.Indices.{among}
 use Rattle.moves.specs.Moves.{inState}
 use Rattle.moves.specs.declared.Move.{Move}
 use Rattle.moves.specs.declared.Move.the-variants.{Ignored, Silent, Illegal, To}
-use Rattle.spi.proofs.Laws.{mmc-heard, in-spi, stays-in-spi, isInactive, gone, reset, reset-inactive}
+use Rattle.spi.proofs.Laws.{mmc-heard, in-spi, isInactive, gone, reset, reset-inactive}
 use Rattle.spi.specs.Answers.{responseOf, leftIn, answeredIn, faulted}
-use Rattle.spi.specs.Hearing.{unheard, heardInMmc, modeAfter, takenIn, movedIn, spiHeard, asSpi, heardOf, damagedOf}
+use Rattle.spi.specs.Hearing.{unheard, modeAfter, takenIn, movedIn, spiHeard, asSpi, heardOf, damagedOf}
 use Rattle.spi.specs.declared.Heard.{Heard}
 use Rattle.spi.specs.declared.Response.{Response}
 use Rattle.spi.specs.declared.Response.the-variants.{R1, R2, R3}
 use Rattle.spi_answers.proofs.Masks.{masked, r1-mask, r2-mask}
 use Rattle.spi_moves.proofs.Laws.{stays-in-five}
 use Rattle.spi_moves.specs.Moves.{five, rowOf, moveOf}
-use Rattle.spi_moves.specs.declared.Row.the-variants.{SendStatus, SetOrTag}
 use Rattle.states.specs.States.{columnOf}
 use Rattle.states.specs.declared.Column.{Column}
 use Rattle.states.specs.declared.Column.the-variants.{Idle, Ready, Ident, Stby, Tran, Data, Rcv, Prg, Dis, Ina}
 use Rattle.states.specs.declared.State.{State}
 use Rattle.status.proofs.Bits.{and-assoc, and-or}
 use Rattle.status.specs.ErrorBits.{placeOf, errorBit, wordWith}
-use Rattle.status.specs.Status.{noErrors, withBit}
+use Rattle.status.specs.Status.{withBit}
 use Rattle.status.specs.declared.ErrorBit.{ErrorBit}
 use Rattle.status.specs.declared.ErrorBit.the-variants as bit
 use Rattle.status.specs.declared.Errors.{Errors}
@@ -53,51 +50,9 @@ use Rattle.tags.specs.declared.Tagging.{Tagging}
 use Rattle.tags.specs.declared.Tags.{Tags}
 use Rattle.made.proofs.Acted.{acted-made}
 use Rattle.made.proofs.Commands.{link-made}
+use Rattle.made.proofs.LeadingInSpi.{leading}
 use Rattle.made.proofs.Links.{fresh-made, errors-made, damaged-made}
-use Rattle.made.specs.Leading.{Leading}
 use Rattle.made.specs.Made.{pendingBits, Pending, MadeLink, MadeMode}
-
--- ---- the table
-status-stays : (from there : Column) → moveOf SendStatus from ≡ To there → there ≡ from
-unfolding moveOf
-status-stays Idle there e = cc
-status-stays Ready there e = cc
-status-stays Ident there e = cc
-status-stays Stby there e = cc
-status-stays Tran there e = cc
-status-stays Data there e = cc
-status-stays Rcv there e = cc
-status-stays Prg there e = cc
-status-stays Dis there e = cc
-status-stays Ina there e = cc
-
-tran-stays : (from there : Column) → moveOf SetOrTag from ≡ To there → there ≡ Tran
-unfolding moveOf
-tran-stays Idle there e = cc
-tran-stays Ready there e = cc
-tran-stays Ident there e = cc
-tran-stays Stby there e = cc
-tran-stays Tran there e = cc
-tran-stays Data there e = cc
-tran-stays Rcv there e = cc
-tran-stays Prg there e = cc
-tran-stays Dis there e = cc
-tran-stays Ina there e = cc
-
-abbrev tagging : List ℕ
-tagging = 16 ∷ 32 ∷ 33 ∷ 35 ∷ 36 ∷ []
-
-tran-row : (index : ℕ) → among index tagging ≡ true → rowOf index ≡ SetOrTag
-unfolding rowOf
-tran-row index = each (λ (k : ℕ). rowOf k ≡ SetOrTag) tagging (refl, (refl, (refl, (refl, (refl, tt))))) index
-
-leading : (index : ℕ) (from there : Column) → moveOf (rowOf index) from ≡ To there → Leading index from there
-unfolding rowOf
-leading index from there h =
-    record {
-      status = λ i. status-stays from there (rw i at h);
-      tran = λ t. tran-stays from there (rw (tran-row index t) at h);
-    }
 
 -- ---- the answer
 -- every error bit that has a name

@@ -5,6 +5,7 @@ pub mod Faults
 pub mod InSpi
 pub mod InRange
 pub mod Kept
+pub mod LeadingInSpi
 pub mod Lent
 pub mod Links
 pub mod Locks
