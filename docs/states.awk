@@ -1,6 +1,7 @@
-# The picture of a card's states, from the table of moves (crates/moves/src/table.rt): each move of the
-# table is an arrow, or a word in the box of a state that stays. Only the places are given here: a move
-# that has none, and a place that has no move, is an error.
+# A picture of a card's states, from a table of moves (a crate's src/table.rt): each move of the table is an
+# arrow, or a word in the box of a state that stays. A second program says what is this picture's own, and
+# the places: mmc_states.awk or spi_states.awk. A move that has no place, and a place that has no move, is
+# an error.
 
 # A box, by its centre.
 function box(state, name, x, y) { name_of[state] = name; box_x[state] = x; box_y[state] = y; boxes[++box_count] = state }
@@ -26,6 +27,14 @@ function no_command(label, path, x, y, anchor, wide) {
     call_place[call_count] = x " " y " " anchor " " wide
 }
 
+# The picture's size and title, its table and what that table has: its rows, the entries that are no state,
+# and the columns of states that have no box, since no card reaches them.
+function picture(width, height, title, table, total, marks, unreached,    names, i) {
+    picture_width = width; picture_height = height; picture_title = title; table_path = table; row_total = total
+    for (i = split(marks, names, " "); i > 0; i--) is_mark[names[i]]
+    for (i = split(unreached, names, " "); i > 0; i--) no_box[names[i]]
+}
+
 # Labels put together: CMD7, CMD9, 10 make CMD7, 9, 10.
 function joined(a, b) {
     if (a == "") return b
@@ -35,57 +44,31 @@ function joined(a, b) {
 
 function fail(what) { print "states.awk: " what > "/dev/stderr"; failed = 1; exit 1 }
 
-BEGIN {
-    box("Idle", "Idle", 140, 200)
-    box("Ready", "Ready", 140, 370)
-    box("Ident", "Identification", 140, 540)
-    box("Stby", "Stand-by", 480, 370)
-    box("Tran", "Transfer", 750, 370)
-    box("Data", "Sending-data", 750, 200)
-    box("Rcv", "Receive-data", 1042, 370)
-    box("Prg", "Programming", 750, 540)
-    box("Dis", "Disconnect", 480, 540)
-    box("Ina", "Inactive", 480, 750)
-    way("Idle", "Ready", "M140 242 V324", 150, 279, "start", 20)
-    way("Idle", "Ina", "M55 200 H20 V750 H391", 34, 741, "start", 40)
-    way("Ready", "Ident", "M140 412 V494", 150, 457, "start", 20)
-    way("Ident", "Stby", "M225 540 H348 V370 H391", 284, 531, "middle", 20)
-    way("Stby", "Tran", "M565 356 H661", 613, 347, "middle", 20)
-    way("Tran", "Stby", "M665 384 H569", 617, 403, "middle", 20)
-    way("Data", "Stby", "M665 200 H480 V324", 575, 191, "middle", 20)
-    way("Tran", "Data", "M692 328 V246", 684, 291, "end", 20)
-    way("Data", "Tran", "M738 242 V324", 745, 288, "start", 20)
-    way("Tran", "Rcv", "M835 356 H953", 895, 347, "middle", 20)
-    way("Rcv", "Prg", "M1002 412 V526 H839", 920, 517, "middle", 20)
-    way("Tran", "Prg", "M712 412 V494", 704, 457, "end", 20)
-    way("Prg", "Dis", "M665 526 H569", 617, 517, "middle", 20)
-    way("Dis", "Prg", "M565 554 H661", 613, 573, "middle", 20)
-    six = "Stby Tran Data Rcv Prg Dis"
-    all_of("Idle Ready Ident " six, "Idle", "from each state in the outer frame", "M170 92 V154", 182, 114, "start", 60)
-    all_of(six, "Ina", "from each state of data transfer", "M480 610 V704", 490, 660, "start", 22)
-    no_command("power-on, from each of the ten states", "M110 50 V154", 124, 54, "start", 60)
-    no_command("block out (CMD17, 30)", "M808 242 V324", 816, 280, "start", 12)
-    no_command("block refused 16 to 20 (CMD24, 42)", "M957 384 H839", 897, 403, "middle", 14)
-    no_command("block taken (CMD24, 42)", "M1082 412 V554 H839", 956, 573, "middle", 40)
-    no_command("work done", "M788 498 V416", 796, 457, "start", 20)
-    no_command("work done", "M480 498 V416", 490, 457, "start", 20)
-}
-
-# The table: the states by name, the columns, the rows.
-/^const [A-Z]+: Entry = Entry::/ { state = $0; gsub(/.*Entry::|;.*/, "", state); if (state in name_of) state_of[substr($2, 1, 3)] = state }
-/^ *\/\/ idl / { for (i = 2; i <= 11; i++) { key = toupper(substr($i, 1, 3)); column[i - 1] = state_of[key] } }
+# The table: its entries by name, the columns, the rows.
+/^const [A-Z]+: Entry = Entry::/ { entry = $0; gsub(/.*Entry::|;.*/, "", entry); entry_of[substr($2, 1, 3)] = entry }
+/^ *\/\/ idl / { for (i = 2; i <= 11; i++) column[i - 1] = boxed(substr($i, 1, 3)) }
 /^ *\[.*\], *\/\/ / { row($0) }
 
-# A row: where it leads from each state.
-function row(line,    label, cells, count, i, to, sources) {
+# The state of a column, or nothing for one that has no box.
+function boxed(key,    state) {
+    if (key in no_box) return ""
+    state = entry_of[toupper(key)]
+    if (!(state in name_of)) fail("no box for the column " key)
+    return state
+}
+
+# A row: where it leads from each state that has a box.
+function row(line,    label, cells, cell, count, i, to, sources) {
     label = cells = line
     sub(/.*\/\/ /, "", label)
     gsub(/^ *\[|\].*/, "", cells)
     count = split(cells, cell, ", ")
     if (count != 10) fail("a row of " count " states: " line)
     for (i = 1; i <= 10; i++) {
-        if (!(cell[i] in state_of)) continue
-        to = state_of[cell[i]]
+        if (column[i] == "") continue
+        to = entry_of[cell[i]]
+        if (to in is_mark) continue
+        if (!(to in name_of)) fail("no box for " cell[i] ", where this leads from " column[i] ": " line)
         sources[to] = sources[to] (sources[to] == "" ? "" : " ") column[i]
     }
     for (to in sources) move(sources[to], to, label)
@@ -119,12 +102,25 @@ function one_line(x, y, anchor, class, line) {
     return sprintf("<text x='%d' y='%d' text-anchor='%s' class='%s'>%s</text>\n", x, y, anchor, class, line)
 }
 
-function draw_box(state, number,    x, y, stay) {
-    x = box_x[state]; y = box_y[state]
+# The commands of a label in the order of their indices, where it has nothing but commands.
+function in_order(label,    index_of, count, i, k, held, out) {
+    if (label !~ /^CMD[0-9, ]+$/) return label
+    count = split(substr(label, 4), index_of, ", ")
+    for (i = 2; i <= count; i++) {
+        held = index_of[i]
+        for (k = i - 1; k > 0 && index_of[k] + 0 > held + 0; k--) index_of[k + 1] = index_of[k]
+        index_of[k + 1] = held
+    }
+    for (i = 1; i <= count; i++) out = out (i == 1 ? "CMD" : ", ") index_of[i]
+    return out
+}
+
+# A box by its centre: a name, a line below it, and what stays there.
+function draw_box(x, y, name, below, stay) {
     printf "<rect x='%d' y='%d' width='170' height='84' rx='8' class='box'/>\n", x - 85, y - 42
-    stay = stays[state] == "" ? "" : "stays: " stays[state]
+    if (stay != "") stay = "stays: " in_order(stay)
     y -= stay == "" ? 3 : length(stay) <= 22 ? 13 : 20
-    printf "%s", one_line(x, y, "middle", "name", name_of[state]) one_line(x, y + 18, "middle", "short", tolower(state) ", state " number)
+    printf "%s", one_line(x, y, "middle", "name", name) one_line(x, y + 18, "middle", "short", below)
     if (stay != "") printf "%s", text(stay, x " " y + 37 " middle 22", "stay")
 }
 
@@ -153,40 +149,43 @@ function style() {
     print "</style>"
 }
 
+function ground_box(class, x, y, width, height, round) {
+    printf "<rect x='%d' y='%d' width='%d' height='%d' rx='%d' class='%s'/>\n", x, y, width, height, round, class
+}
+
 function header() {
-    printf "<svg xmlns='http://www.w3.org/2000/svg' viewBox='0 0 1164 830' width='1164' height='830'"
+    printf "<svg xmlns='http://www.w3.org/2000/svg' viewBox='0 0 %d %d' width='%d' height='%d'", picture_width, picture_height, picture_width, picture_height
     print " font-family='Helvetica, Arial, DejaVu Sans, sans-serif'>"
-    print "<!-- Made by docs/pictures from crates/moves/src/table.rt. -->"
-    print "<title>The states of a card, and what moves it</title>"
+    print "<!-- Made by docs/pictures from " table_path ". -->"
+    print "<title>" picture_title "</title>"
     style()
     print "<defs>"
     marker("command", "#1f2937")
     marker("call", "#b45309")
     print "</defs>"
-    print "<rect width='1164' height='830' fill='#ffffff'/>"
-    printf "%s", one_line(1148, 58, "end", "title", "The states of a card, and what moves it")
-    print "<rect x='36' y='92' width='1112' height='530' rx='14' class='frame'/>"
-    print "<rect x='48' y='126' width='276' height='484' rx='10' class='panel'/>"
-    print "<rect x='372' y='126' width='764' height='484' rx='10' class='panel'/>"
-    printf "%s", one_line(312, 148, "end", "head", "card identification")
-    printf "%s", one_line(1122, 148, "end", "head", "data transfer")
+    printf "<rect width='%d' height='%d' fill='#ffffff'/>\n", picture_width, picture_height
+    printf "%s", one_line(picture_width - 16, 58, "end", "title", picture_title)
 }
 
-function legend(    words) {
-    draw_arrow("M690 660 H738", "command")
-    printf "%s", one_line(756, 665, "start", "label", "a command: from the table of moves")
-    draw_arrow("M690 686 H738", "call")
-    printf "%s", one_line(756, 691, "start", "called", "no command, not in the table: from document 01")
-    words = "own: for this card's address; other: for another's; won: this card's identifier won the line. "
-    words = words "A command moves nothing where it is on no arrow and in no box, nor where its argument is wrong or the lock forbids it."
-    printf "%s", text(words, "690 724 start 57", "label")
+# What the two arrows are, and more words below, so many characters to a line.
+function legend(x, y, command, called, words, wide) {
+    draw_arrow("M" x " " y " H" x + 48, "command")
+    printf "%s", one_line(x + 66, y + 5, "start", "label", command)
+    draw_arrow("M" x " " y + 26 " H" x + 48, "call")
+    printf "%s", one_line(x + 66, y + 31, "start", "called", called)
+    printf "%s", text(words, x " " y + 64 " start " wide, "label")
 }
 
 END {
     if (failed) exit 1
-    if (rows != 20) fail("the table has " rows + 0 " rows")
+    if (rows != row_total) fail("the table has " rows + 0 " rows")
     header()
-    for (i = 1; i <= 10; i++) draw_box(column[i], i - 1)
+    ground()
+    for (i = 1; i <= 10; i++) {
+        state = column[i]
+        if (state == "") continue
+        draw_box(box_x[state], box_y[state], name_of[state], tolower(state) ", state " i - 1, stays[state])
+    }
     for (i = 1; i <= way_count; i++) {
         split(ways[i], ends, SUBSEP)
         if (!(ways[i] in label_of)) fail("the table has no move from " ends[1] " to " ends[2])
@@ -198,6 +197,6 @@ END {
         draw_arrow(calls[i], "call")
         printf "%s", text(call_label[i], call_place[i], "called")
     }
-    legend()
+    footer()
     print "</svg>"
 }

@@ -12,7 +12,7 @@ function size(    kind) {
     kind = byte(0)
     if (program == "busline") return kind == 1 ? 16 : kind == 2 ? 7 : 1
     if (kind == 1) return 43 + byte(5) + byte(42 + byte(5))
-    if (kind == 2) return 2 + byte(1)
+    if (kind == 2 || kind == 14) return 2 + byte(1)
     if (kind == 3 || kind == 13) return 3 + 256 * byte(1) + byte(2)
     if (kind == 12) return 5 + 256 * byte(1) + byte(2)
     return kind in fixed ? fixed[kind] : 1

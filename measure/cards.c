@@ -1,4 +1,4 @@
-/* What is measured at one card: for each work its record, and what goes in. */
+/* What is measured at one card: for each work its record, and what goes in. Where a record is in SPI the select line is low. */
 #include "measure.h"
 #include "plain_card.h"
 
@@ -45,9 +45,18 @@ static const struct at_card WORK[WORKS - CARD_FIRST] = {
     {"512 bytes written", BLOCK_IN, CARD(RCV_ONE, 512, 2, .at = 512), 0, 0, PRG, 0, 0},
     {"2,048 bytes read", BLOCK_OUT, CARD(DATA_ONE, 2048, 2, .at = 2048), 0, 0, TRAN, 2050, 0},
     {"password set", BLOCK_IN, CARD(RCV_LOCK, 16, 2, .at = 0), 0, 0, PRG, 0, 0},
+    {"SPI, CMD0", FRAME, CARD(TRAN, 512, 2, .mode = SPI), 0, 0, IDLE, 1, 0},
+    {"SPI, CMD13", FRAME, CARD(TRAN, 512, 2, .mode = SPI), 0, 13, TRAN, 2, 0},
+    {"SPI, CMD17", FRAME, CARD(TRAN, 512, 2, .mode = SPI), 512, 17, DATA_ONE, 1, 0},
+    {"SPI, CMD9", FRAME, CARD(TRAN, 512, 2, .mode = SPI), 0, 9, DATA_CSD, 1, 0},
+    {"SPI, illegal, CMD18", FRAME, CARD(TRAN, 512, 2, .mode = SPI), 512, 18, TRAN, 1, 0},
+    {"SPI, CRC7 wrong", FRAME, CARD(TRAN, 512, 2, .mode = SPI | CHECKS), 0, 13, TRAN, 1, FRAME_CRC},
+    {"SPI, 512 written", BLOCK_IN, CARD(RCV_ONE, 512, 2, .at = 512, .mode = SPI), 0, 0, PRG, 1, 0},
+    {"SPI, 512 with CRC", BLOCK_IN, CARD(RCV_ONE, 512, 2, .at = 512, .mode = SPI | CHECKS), 0, 0, PRG, 1, 0},
+    {"SPI, 2,048 read", BLOCK_OUT, CARD(DATA_ONE, 2048, 2, .at = 2048, .mode = SPI), 0, 0, TRAN, 2051, 0},
 };
 
-static _Alignas(64) u8 memory[LARGE], map[LARGE / GROUP], out[2050], frames[WORKS - CARD_FIRST][6], block[514], request[18];
+static _Alignas(64) u8 memory[LARGE], map[LARGE / GROUP], out[2051], frames[WORKS - CARD_FIRST][6], block[514], started[515], request[18];
 static u8 cid[REGISTER], csd[REGISTER], answer[MMC_ANSWER];
 static struct mmc_card card;
 /* What the call performed last answered, and how many bytes it sent or wrote. */
@@ -67,7 +76,10 @@ void prepare_card(const struct calls *calls)
     for (int w = 0; w < WORKS - CARD_FIRST; w++)
         calls->write_command((u8)WORK[w].index, WORK[w].argument, frames[w], 6);
     frames[CMD13_CRC - CARD_FIRST][5] ^= 2;
+    frames[SPI_CMD13_CRC - CARD_FIRST][5] ^= 2;
     calls->write_block(bytes, sizeof bytes, block, sizeof block);
+    started[0] = START_BYTE;
+    memcpy(started + 1, block, sizeof block);
     calls->write_block(SET, sizeof SET, request, sizeof request);
     memcpy(cid, bytes, REGISTER - 1);
     cid[REGISTER - 1] = (u8)(calls->crc7(cid, REGISTER - 1) << 1 | 1);
@@ -81,6 +93,7 @@ void perform_card(const struct calls *calls, enum work work)
 {
     const struct at_card *at = &WORK[work - CARD_FIRST];
     usize size = at->card.groups > 3 ? LARGE : SMALL;
+    u32 selected = at->card.mode & SPI;
     struct mmc_numbers *numbers = &card.numbers;
     *numbers = at->card;
     refusal = 0;
@@ -96,14 +109,16 @@ void perform_card(const struct calls *calls, enum work work)
         calls->work_done(numbers, card.cid, card.csd, card.password);
         break;
     case FRAME:
-        refusal = calls->frame(numbers, card.cid, card.csd, card.password, 1, frames[work - CARD_FIRST], 6, memory, size, map, size / GROUP,
-                               answer, &bytes_out);
+        refusal = calls->frame(numbers, card.cid, card.csd, card.password, 1, selected, frames[work - CARD_FIRST], 6, memory, size, map,
+                               size / GROUP, answer, &bytes_out);
         break;
     case BLOCK_IN:
         if (work == LOCK_REQUEST)
-            refusal = calls->block_in(numbers, card.cid, card.csd, card.password, request, sizeof request, memory, size, map, size / GROUP);
+            refusal = calls->block_in(numbers, card.cid, card.csd, card.password, request, sizeof request, memory, size, map, size / GROUP,
+                                      answer, &bytes_out);
         else
-            refusal = calls->block_in(numbers, card.cid, card.csd, card.password, block, sizeof block, memory, size, map, size / GROUP);
+            refusal = calls->block_in(numbers, card.cid, card.csd, card.password, selected ? started : block, sizeof block + selected, memory,
+                                      size, map, size / GROUP, answer, &bytes_out);
         break;
     case BLOCK_OUT:
         refusal = calls->block_out(numbers, card.cid, card.csd, card.password, memory, size, map, size / GROUP, out, sizeof out, &bytes_out);

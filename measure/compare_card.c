@@ -1,7 +1,7 @@
-/* One card's calls, proved and in plain C, on the same records and inputs. */
+/* One card's calls, proved and in plain C, on the same records and inputs, in MMC mode and in SPI. */
 #include "measure.h"
 
-enum { SIZE = 16384, GROUPS = 2, ROOM = 2064, STATES = 14, LARGEST = 33554432, GROUP = 8192 };
+enum { SIZE = 16384, GROUPS = 2, ROOM = 2064, STATES = 16, LARGEST = 33554432, GROUP = 8192 };
 #define COUNT(list) (sizeof(list) / sizeof(list)[0])
 #define ANY(list) (list)[next() % COUNT(list)]
 
@@ -34,6 +34,7 @@ static void begin(u32 state)
     static const u32 LENGTHS[] = {512, 512, 512, 2048, 1, 2, 3, 40, 1024, 2047, 0, 2049, 65535};
     static const u32 ERRORS[] = {0, 0, 0x00C00000, 0x00008000, 0xFFFFFFFF, 0x82400000};
     static const u8 PROTECTION[] = {0, 0, 0, 0x10, 0x20, 0xCF, 0xFF};
+    static const u32 MODES[] = {0, 0, 0, 2, 1, 1, 3, 3};
     static const u32 HELD[] = {0, 0, 1, 4, 15, 16, 17, 200};
     struct mmc_numbers card = {
         .state = state,
@@ -44,6 +45,7 @@ static void begin(u32 state)
         .tags = next() % 5,
         .first = next() % 36,
         .last = next() % 36,
+        .mode = ANY(MODES),
         .locked = next() % 4 == 0,
         .password_length = ANY(HELD),
         .groups = next() % 32 ? GROUPS : next() % 4,
@@ -72,20 +74,20 @@ static void frames(const struct calls *ours, const struct calls *theirs)
     static const u32 ARGUMENTS[] = {0,     1,     511,   512,        513,        1024,       2047,       2048,       2049,       4096,
                                     8191,  8192,  12288, 15872,      15873,      16383,      16384,      0x00010000, 0x0001FFFF, 0x00020000,
                                     65535, 20480, 14337, 0x00FF8000, 0xFF000000, 0x80000000, 0xFFFFFFFF};
-    static const u32 WON[] = {1, 1, 0, 2, 256, 0x80000000};
+    static const u32 WON[] = {1, 1, 0, 2, 256, 0x80000000}, SELECTED[] = {0, 1, 1, 2, 256, 0x80000000};
     for (u32 state = 0; state < STATES; state++)
         for (u32 index = 0; index < 64; index++)
             for (usize a = 0; a < COUNT(ARGUMENTS); a++)
-                for (int turn = 0; turn < 12; turn++) {
+                for (int turn = 0; turn < 24; turn++) {
                     usize length = next() % 32 ? 6 : next() % 9;
                     usize size = next() % 64 ? SIZE : SIZE - next() % 8194, groups = next() % 64 ? GROUPS : next() % 3;
-                    u32 won = ANY(WON);
+                    u32 won = ANY(WON), selected = ANY(SELECTED);
                     begin(state);
                     theirs->write_command((u8)index, ARGUMENTS[a], input, 6);
                     if (next() % 16 == 0)
                         input[next() % 6] ^= 1 << next() % 8;
-                    one.refusal = ours->frame(PARTS(one), won, input, length, one.memory, size, one.map, groups, one.answer, &one.bytes);
-                    two.refusal = theirs->frame(PARTS(two), won, input, length, two.memory, size, two.map, groups, two.answer, &two.bytes);
+                    one.refusal = ours->frame(PARTS(one), won, selected, input, length, one.memory, size, one.map, groups, one.answer, &one.bytes);
+                    two.refusal = theirs->frame(PARTS(two), won, selected, input, length, two.memory, size, two.map, groups, two.answer, &two.bytes);
                     end("a frame at a card", theirs, state << 8 | index);
                 }
 }
@@ -103,22 +105,26 @@ static void request(void)
         input[2 + next() % 16] ^= 1;
 }
 
+/* In SPI a start byte stands before the block, most often the right one. */
 static void blocks_in(const struct calls *ours, const struct calls *theirs)
 {
     static u8 block[ROOM];
     for (u32 state = 0; state < STATES; state++)
-        for (int turn = 0; turn < (state >= 8 && state <= 10 ? 20000 : 500); turn++) {
+        for (int turn = 0; turn < (state >= 8 && state <= 10 ? 40000 : 500); turn++) {
             begin(state);
             u32 held = start.card.numbers.length, n = state != 10 ? 512 : held < 1 || held > 2048 ? 2048 : held;
+            u32 before = start.card.numbers.mode & 1;
             if (next() % 16 == 0)
                 n = 1 + next() % 2048;
             request();
-            theirs->write_block(input, n, block, n + 2);
+            theirs->write_block(input, n, block + before, n + 2);
+            if (before != 0)
+                block[0] = next() % 16 ? 0xFE : (u8)next();
             if (next() % 16 == 0)
-                block[next() % (n + 2)] ^= 1 << next() % 8;
-            usize length = next() % 16 ? n + 2 : next() % (n + 4), size = next() % 64 ? SIZE : SIZE - next() % 8194;
-            one.refusal = ours->block_in(PARTS(one), block, length, one.memory, size, one.map, GROUPS);
-            two.refusal = theirs->block_in(PARTS(two), block, length, two.memory, size, two.map, GROUPS);
+                block[before + next() % (n + 2)] ^= 1 << next() % 8;
+            usize length = next() % 16 ? before + n + 2 : next() % (n + 5), size = next() % 64 ? SIZE : SIZE - next() % 8194;
+            one.refusal = ours->block_in(PARTS(one), block, length, one.memory, size, one.map, GROUPS, one.answer, &one.bytes);
+            two.refusal = theirs->block_in(PARTS(two), block, length, two.memory, size, two.map, GROUPS, two.answer, &two.bytes);
             end("a block into a card", theirs, state);
         }
 }
@@ -126,10 +132,10 @@ static void blocks_in(const struct calls *ours, const struct calls *theirs)
 static void blocks_out(const struct calls *ours, const struct calls *theirs)
 {
     for (u32 state = 0; state < STATES; state++)
-        for (int turn = 0; turn < (state >= 5 && state <= 7 ? 20000 : 500); turn++) {
+        for (int turn = 0; turn < ((state >= 5 && state <= 7) || state >= 14 ? 30000 : 500); turn++) {
             begin(state);
             u32 n = start.card.numbers.length;
-            usize rooms[] = {2050, 2051, 514, 513, 5, 6, 7, n + 1, n + 2, next() % 2060};
+            usize rooms[] = {2050, 2051, 2052, 514, 513, 5, 6, 7, 17, 18, 19, n + 1, n + 2, n + 3, next() % 2060};
             usize room = ANY(rooms), size = next() % 64 ? SIZE : SIZE - next() % 8194;
             if (room > ROOM)
                 room = ROOM;

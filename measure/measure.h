@@ -51,10 +51,10 @@ struct calls {
                usize secret_length, const u8 *memory, usize size, const u8 *map, usize groups);
     void (*power_on)(struct mmc_numbers *card, const u8 *cid, const u8 *csd, const u8 *password);
     void (*work_done)(struct mmc_numbers *card, const u8 *cid, const u8 *csd, const u8 *password);
-    u8 (*frame)(struct mmc_numbers *card, const u8 *cid, const u8 *csd, const u8 *password, u32 won, const u8 *frame, usize length, u8 *memory,
-                usize size, u8 *map, usize groups, u8 *answer, usize *sent);
+    u8 (*frame)(struct mmc_numbers *card, const u8 *cid, const u8 *csd, const u8 *password, u32 won, u32 selected, const u8 *frame,
+                usize length, u8 *memory, usize size, u8 *map, usize groups, u8 *answer, usize *sent);
     u8 (*block_in)(struct mmc_numbers *card, const u8 *cid, const u8 *csd, u8 *password, const u8 *block, usize length, u8 *memory, usize size,
-                   u8 *map, usize groups);
+                   u8 *map, usize groups, u8 *response, usize *sent);
     u8 (*block_out)(struct mmc_numbers *card, const u8 *cid, const u8 *csd, const u8 *password, const u8 *memory, usize size, const u8 *map,
                     usize groups, u8 *out, usize room, usize *written);
     usize (*rounds)(const u8 *cids, usize count, usize rounds, u16 *addresses);
@@ -109,6 +109,15 @@ enum work {
     WRITE_CARD,
     READ_CARD,
     LOCK_REQUEST,
+    SPI_CMD0,
+    SPI_CMD13,
+    SPI_CMD17,
+    SPI_CMD9,
+    SPI_ILLEGAL,
+    SPI_CMD13_CRC,
+    SPI_WRITE,
+    SPI_WRITE_CHECKED,
+    SPI_READ,
     WORKS,
     ROUNDS = WORKS
 };

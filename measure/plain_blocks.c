@@ -1,4 +1,5 @@
-/* Blocks into and out of one card in plain C: the record by pointer and altered in its place. */
+/* Blocks into and out of one card in plain C: the record by pointer and altered in its place. In SPI a start byte goes before a block, and a
+   data response follows one that goes in. */
 #include "measure.h"
 #include "plain.h"
 #include "plain_card.h"
@@ -87,18 +88,14 @@ static u8 store_block(struct mmc_numbers *card, const u8 *csd, const u8 *block, 
     return 0;
 }
 
-u8 PLAIN(block_in)(struct mmc_numbers *card, const u8 *cid, const u8 *csd, u8 *password, const u8 *block, usize length, u8 *memory, usize size,
-                   u8 *map, usize groups)
+static u8 take_block(struct mmc_numbers *card, const u8 *csd, u8 *password, const u8 *block, usize length, u8 *memory, usize size, u8 *map,
+                     usize groups)
 {
-    (void)cid;
-    if (!lent_right(card, size, map, groups))
-        return LENT;
-    if (card->state < RCV_ONE || card->state > RCV_LOCK)
-        return NO_BLOCK;
-    u32 n = card->state == RCV_LOCK ? read_length(card) : SECTOR;
-    if (length != n + 2)
+    u32 n = card->state == RCV_LOCK ? read_length(card) : SECTOR, start = card->mode & SPI;
+    if (length != start + n + 2 || (start != 0 && block[0] != START_BYTE))
         return refuse_block(card, BLOCK_LENGTH, BLOCK_LEN_ERROR);
-    if (PLAIN(check_block)(block, length) != 0)
+    block += start;
+    if (!unchecked(card) && PLAIN(check_block)(block, n + 2) != 0)
         return refuse_block(card, BLOCK_CRC, 0);
     if (card->state != RCV_LOCK)
         return store_block(card, csd, block, memory, size, map);
@@ -106,6 +103,23 @@ u8 PLAIN(block_in)(struct mmc_numbers *card, const u8 *cid, const u8 *csd, u8 *p
         return refuse_block(card, LOCK_FAILED, LOCK_UNLOCK_FAILED);
     card->state = PRG;
     return 0;
+}
+
+u8 PLAIN(block_in)(struct mmc_numbers *card, const u8 *cid, const u8 *csd, u8 *password, const u8 *block, usize length, u8 *memory, usize size,
+                   u8 *map, usize groups, u8 *response, usize *sent)
+{
+    (void)cid;
+    *sent = 0;
+    if (!lent_right(card, size, map, groups))
+        return LENT;
+    if (card->state < RCV_ONE || card->state > RCV_LOCK)
+        return NO_BLOCK;
+    u8 refusal = take_block(card, csd, password, block, length, memory, size, map, groups);
+    if (card->mode & SPI && (refusal == 0 || refusal == BLOCK_CRC)) {
+        *response = refusal == 0 ? ACCEPTED : BAD_CRC;
+        *sent = 1;
+    }
+    return refusal;
 }
 
 /* 32 bits from a group on, that group lowest; groups past the end read 0. */
@@ -119,31 +133,49 @@ static void send_bits(struct mmc_numbers *card, const u8 *map, usize groups, u8 
     PLAIN(write_block)(bytes, 4, out, room);
 }
 
+static int sends_part(const struct mmc_numbers *card)
+{
+    return card->state == DATA_ONE || card->state == DATA_MANY;
+}
+
+/* How many bytes are to be sent, without a start byte and the CRC16; 0 where none are. */
+static u32 outgoing_length(const struct mmc_numbers *card)
+{
+    if (sends_part(card))
+        return read_length(card);
+    if (card->state == DATA_BITS)
+        return 4;
+    return card->state == DATA_CSD || card->state == DATA_CID ? REGISTER : 0;
+}
+
 u8 PLAIN(block_out)(struct mmc_numbers *card, const u8 *cid, const u8 *csd, const u8 *password, const u8 *memory, usize size, const u8 *map,
                     usize groups, u8 *out, usize room, usize *written)
 {
-    (void)cid, (void)csd, (void)password;
+    (void)password;
     *written = 0;
     if (!lent_right(card, size, map, groups))
         return LENT;
-    if (card->state < DATA_ONE || card->state > DATA_BITS)
+    u32 n = outgoing_length(card), start = card->mode & SPI;
+    if (n == 0)
         return NO_BLOCK;
-    u32 n = card->state == DATA_BITS ? 4 : read_length(card);
-    if (room < n + 2)
+    if (room < start + n + 2)
         return OUTPUT_SHORT;
-    if (card->state == DATA_BITS) {
-        send_bits(card, map, groups, out, room);
-    } else {
-        if ((usize)card->at + n > size)
-            return refuse(card, PAST_END, OUT_OF_RANGE);
-        if (card->at % LONGEST + n > LONGEST)
-            return refuse(card, BLOCK_CROSSES, ADDRESS_ERROR);
-        PLAIN(write_block)(memory + card->at, n, out, room);
-    }
+    if (sends_part(card) && (usize)card->at + n > size)
+        return refuse(card, PAST_END, OUT_OF_RANGE);
+    if (sends_part(card) && card->at % LONGEST + n > LONGEST)
+        return refuse(card, BLOCK_CROSSES, ADDRESS_ERROR);
+    if (start != 0)
+        out[0] = START_BYTE;
+    if (sends_part(card))
+        PLAIN(write_block)(memory + card->at, n, out + start, room - start);
+    else if (card->state == DATA_BITS)
+        send_bits(card, map, groups, out + start, room - start);
+    else
+        PLAIN(write_block)(card->state == DATA_CSD ? csd : cid, n, out + start, room - start);
     if (card->state == DATA_MANY)
         card->at += n;
     else
         card->state = TRAN;
-    *written = n + 2;
+    *written = start + n + 2;
     return 0;
 }

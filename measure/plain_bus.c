@@ -1,10 +1,10 @@
 /* Up to 30 cards on one line in plain C: the records lie in an array and are altered in their place, a frame is read once for all cards,
    each takes the command by the plain card's own code, and what they send is ANDed. In CMD2 the CIDs are compared by byte, and the
-   losers neither send nor change. */
+   losers neither send nor change. Every select line is high, so that a card in SPI hears nothing. */
 #include "measure.h"
 #include "plain.h"
 #include "plain_card.h"
-#include "plain_command.h"
+#include "plain_spi.h"
 
 enum { MOST = 30, LINE = 17, BUS_CARDS = 13, BUS_INDEX = 14 };
 /* Bit i is set where the bus takes command i. */
@@ -38,11 +38,16 @@ static int order(const u8 *a, const u8 *b)
     return 0;
 }
 
+static int ready(const struct mmc_card *card)
+{
+    return card->numbers.state == READY && (card->numbers.mode & SPI) == 0;
+}
+
 static const u8 *lowest(const struct bus *bus)
 {
     const u8 *low = 0;
     for (usize i = 0; i < bus->count; i++)
-        if (bus->cards[i].numbers.state == READY && (low == 0 || order(bus->cards[i].cid, low) < 0))
+        if (ready(&bus->cards[i]) && (low == 0 || order(bus->cards[i].cid, low) < 0))
             low = bus->cards[i].cid;
     return low;
 }
@@ -57,9 +62,9 @@ static usize tell(struct bus *bus, u8 index, u32 argument, u8 *line)
     for (usize i = 0; i < bus->count; i++) {
         struct mmc_card *card = &bus->cards[i];
         u8 sent[LINE];
-        if (low != 0 && card->numbers.state == READY && order(card->cid, low) != 0)
+        if (low != 0 && ready(card) && order(card->cid, low) != 0)
             continue;
-        usize n = command(&card->numbers, card->cid, card->csd, 1, index, argument, 0, 0, 0, 0, sent);
+        usize n = heard(&card->numbers, card->cid, card->csd, 1, 0, index, argument, 0, 0, 0, 0, sent);
         for (usize b = 0; b < n; b++)
             line[b] &= sent[b];
         if (n > length)
@@ -81,8 +86,7 @@ __attribute__((noinline)) u8 PLAIN(bus_frame)(struct bus *bus, const u8 *frame, 
     u8 refusal = PLAIN(read_frame)(frame, length, &index, &argument);
     if (refusal == FRAME_CRC)
         for (usize i = 0; i < bus->count; i++)
-            if (bus->cards[i].numbers.state != INA)
-                bus->cards[i].numbers.errors |= COM_CRC_ERROR;
+            damaged(&bus->cards[i].numbers, 0, line);
     if (refusal != 0)
         return refusal;
     if (index > 15 || (ON_BUS >> index & 1) == 0)

@@ -3,7 +3,7 @@
 #include "measure.h"
 #include "plain.h"
 #include "plain_card.h"
-#include "plain_command.h"
+#include "plain_spi.h"
 
 static int register_right(const u8 *bytes)
 {
@@ -49,6 +49,7 @@ void PLAIN(power_on)(struct mmc_numbers *card, const u8 *cid, const u8 *csd, con
 {
     (void)cid, (void)csd, (void)password;
     card->locked = card->password_length != 0;
+    card->mode = 0;
     reset(card);
 }
 
@@ -61,8 +62,8 @@ void PLAIN(work_done)(struct mmc_numbers *card, const u8 *cid, const u8 *csd, co
         card->state = STBY;
 }
 
-u8 PLAIN(frame)(struct mmc_numbers *card, const u8 *cid, const u8 *csd, const u8 *password, u32 won, const u8 *frame, usize length, u8 *memory,
-                usize size, u8 *map, usize groups, u8 *answer, usize *sent)
+u8 PLAIN(frame)(struct mmc_numbers *card, const u8 *cid, const u8 *csd, const u8 *password, u32 won, u32 selected, const u8 *frame,
+                usize length, u8 *memory, usize size, u8 *map, usize groups, u8 *answer, usize *sent)
 {
     u8 index;
     u32 argument;
@@ -70,9 +71,12 @@ u8 PLAIN(frame)(struct mmc_numbers *card, const u8 *cid, const u8 *csd, const u8
     *sent = 0;
     if (!lent_right(card, size, map, groups))
         return LENT;
-    u8 refusal = PLAIN(read_frame)(frame, length, &index, &argument);
-    if (refusal != 0)
-        return refuse(card, refusal, refusal == FRAME_CRC && card->state != INA ? COM_CRC_ERROR : 0);
-    *sent = command(card, cid, csd, won, index, argument, memory, size, map, groups, answer);
-    return 0;
+    u8 refusal = PLAIN(unframe)(frame, length, &index, &argument);
+    if (refusal == FRAME_CRC && unchecked(card) && index != 0)
+        refusal = 0;
+    if (refusal == FRAME_CRC)
+        *sent = damaged(card, selected, answer);
+    if (refusal == 0)
+        *sent = heard(card, cid, csd, won, selected, index, argument, memory, size, map, groups, answer);
+    return refusal;
 }

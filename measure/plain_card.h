@@ -2,8 +2,12 @@
 #ifndef PLAIN_CARD_H
 #define PLAIN_CARD_H
 
-enum { IDLE, READY, IDENT, STBY, TRAN, DATA_ONE, DATA_MANY, DATA_BITS, RCV_ONE, RCV_MANY, RCV_LOCK, PRG, DIS, INA };
+enum { IDLE, READY, IDENT, STBY, TRAN, DATA_ONE, DATA_MANY, DATA_BITS, RCV_ONE, RCV_MANY, RCV_LOCK, PRG, DIS, INA, DATA_CSD, DATA_CID };
 enum { NO_TAGS, START_SECTORS, START_GROUPS, FULL_SECTORS, FULL_GROUPS };
+/* The bits of `mode`. */
+enum { SPI = 1, CHECKS = 2 };
+/* What goes before a block in SPI, and the data responses to one. */
+enum { START_BYTE = 0xFE, ACCEPTED = 0x05, BAD_CRC = 0x0B };
 enum { REGISTER = 16, LONGEST_PASSWORD = 16, LONGEST = 2048, GROUP = 8192, MOST_GROUPS = 4096 };
 
 #define OUT_OF_RANGE 0x80000000u
@@ -22,6 +26,12 @@ enum { REGISTER = 16, LONGEST_PASSWORD = 16, LONGEST = 2048, GROUP = 8192, MOST_
 static inline u32 read_length(const struct mmc_numbers *card)
 {
     return card->length < 1 || card->length > LONGEST ? LONGEST : card->length;
+}
+
+/* In SPI CRCs are checked only where that is switched on. */
+static inline int unchecked(const struct mmc_numbers *card)
+{
+    return (card->mode & (SPI | CHECKS)) == SPI;
 }
 
 /* The CSD protects the whole card, for now or for good. */

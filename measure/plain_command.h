@@ -5,9 +5,9 @@
 #define PLAIN_COMMAND_H
 #include "plain_answers.h"
 
-static void illegal(struct mmc_numbers *card)
+static void illegal(struct mmc_numbers *card, u32 state)
 {
-    if (card->state >= TRAN && card->state <= PRG)
+    if (state >= TRAN && state <= PRG)
         card->errors |= ILLEGAL_COMMAND;
 }
 
@@ -90,7 +90,13 @@ static int erase_tagged(const struct mmc_numbers *card, const u8 *csd, u32 tags,
     return PLAIN(erase)(memory, size, map, groups, first, last);
 }
 
-/* The commands of a selected card, all with R1. */
+/* The answer to a command of a card in tran, from which SPI's R1 never shows Idle. */
+static usize answer_transfer(struct mmc_numbers *card, u8 index, u8 *out)
+{
+    return card->mode & SPI ? spi_r1(card, out) : answer_r1(card, index, TRAN, out);
+}
+
+/* The commands of a selected card, all with R1, in either mode. */
 static usize transfer(struct mmc_numbers *card, const u8 *csd, u8 index, u32 argument, u8 *memory, usize size, u8 *map, usize groups, u8 *out)
 {
     u32 error = 0, next = TRAN, at = argument, tags = card->tags, spared = 0;
@@ -99,7 +105,7 @@ static usize transfer(struct mmc_numbers *card, const u8 *csd, u8 index, u32 arg
     if (card->locked && index != 42) {
         card->tags = NO_TAGS;
         card->errors |= LOCK_UNLOCK_FAILED;
-        return answer_r1(card, index, TRAN, out);
+        return answer_transfer(card, index, out);
     }
     switch (index) {
     case 16:
@@ -155,20 +161,20 @@ static usize transfer(struct mmc_numbers *card, const u8 *csd, u8 index, u32 arg
         break;
     }
     card->errors |= error;
-    answer_r1(card, index, TRAN, out);
+    usize sent = answer_transfer(card, index, out);
     if (error)
-        return 6;
+        return sent;
     if (spared)
         card->errors |= WP_ERASE_SKIP;
     card->state = next;
     card->at = at;
-    return 6;
+    return sent;
 }
 
 static usize select_own(struct mmc_numbers *card, u32 state, u8 *out)
 {
     if (state != STBY && state != DIS) {
-        illegal(card);
+        illegal(card, state);
         return 0;
     }
     drop_tags(card);
@@ -210,11 +216,12 @@ static usize voltages(struct mmc_numbers *card, u32 window, u8 *out)
     return answer_r3(card, out);
 }
 
-/* What the card sends is written to `out`: how many bytes. */
+/* A command in MMC mode. What the card sends is written to `out`: how many bytes. */
 static usize command(struct mmc_numbers *card, const u8 *cid, const u8 *csd, u32 won, u8 index, u32 argument, u8 *memory, usize size, u8 *map,
                      usize groups, u8 *out)
 {
-    u32 state = card->state;
+    /* A card that is to send a register is in data, though its number stands elsewhere. */
+    u32 state = card->state > INA ? DATA_BITS : card->state;
     int own = argument >> 16 == card->address;
     if (state == INA)
         return 0;
@@ -263,7 +270,7 @@ static usize command(struct mmc_numbers *card, const u8 *cid, const u8 *csd, u32
             break;
         return transfer(card, csd, index, argument, memory, size, map, groups, out);
     }
-    illegal(card);
+    illegal(card, state);
     return 0;
 }
 

@@ -2,7 +2,7 @@
 #include "measure.h"
 #include "plain.h"
 
-u8 PLAIN(read_frame)(const u8 *frame, usize length, u8 *index, u32 *argument)
+static u8 frame_refusal(const u8 *frame, usize length)
 {
     if (length != 6)
         return FRAME_LENGTH;
@@ -10,13 +10,35 @@ u8 PLAIN(read_frame)(const u8 *frame, usize length, u8 *index, u32 *argument)
         return FRAME_BITS;
     if ((frame[0] & 0x40) == 0)
         return FRAME_BITS;
-    if ((frame[5] & 1) == 0)
-        return FRAME_BITS;
+    return (frame[5] & 1) == 0 ? FRAME_BITS : 0;
+}
+
+static u32 argument_of(const u8 *frame)
+{
+    return (u32)frame[1] << 24 | (u32)frame[2] << 16 | (u32)frame[3] << 8 | frame[4];
+}
+
+u8 PLAIN(read_frame)(const u8 *frame, usize length, u8 *index, u32 *argument)
+{
+    u8 refusal = frame_refusal(frame, length);
+    if (refusal != 0)
+        return refusal;
     if (frame[5] >> 1 != PLAIN(crc7)(frame, 5))
         return FRAME_CRC;
     *index = frame[0] & 0x3F;
-    *argument = (u32)frame[1] << 24 | (u32)frame[2] << 16 | (u32)frame[3] << 8 | frame[4];
+    *argument = argument_of(frame);
     return 0;
+}
+
+/* The same for a card, which may take a frame whose CRC7 is wrong: its index and argument are read, too. */
+u8 PLAIN(unframe)(const u8 *frame, usize length, u8 *index, u32 *argument)
+{
+    u8 refusal = frame_refusal(frame, length);
+    if (refusal != 0)
+        return refusal;
+    *index = frame[0] & 0x3F;
+    *argument = argument_of(frame);
+    return frame[5] >> 1 != PLAIN(crc7)(frame, 5) ? FRAME_CRC : 0;
 }
 
 u8 PLAIN(write_command)(u8 index, u32 argument, u8 *out, usize room)

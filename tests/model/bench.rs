@@ -1,7 +1,7 @@
 //! The bench: one card with its caller's memory and map, and the line each record prints.
 //! Quoted sentences are from docs/CARDLINE.md.
 
-use crate::card::Card;
+use crate::card::{Card, Mode, Refused};
 use crate::script::*;
 use crate::wire::{self, hex, Refusal};
 
@@ -50,14 +50,14 @@ impl Bench {
     pub fn line(&mut self, record: &Record) -> String {
         self.records += 1;
         let told = match record {
-            Record::Frame(bytes) => match self.lending(|card, memory, map| card.frame(bytes, memory, map)) {
-                Ok(Some(answer)) => format!("line {}", hex(&answer)),
-                Ok(None) => "silent".to_string(),
-                Err(refusal) => format!("refused {refusal}"),
-            },
+            Record::Frame(select, bytes) => {
+                heard(self.lending(|card, memory, map| card.frame(bytes, *select, memory, map)))
+            }
             Record::BlockIn(block) => {
                 let result = self.lending(|card, memory, map| card.block_in(block, memory, map));
-                plain(result, "taken")
+                // "In SPI a data response follows on the line".
+                let response = self.card.data_response(result);
+                plain(result, "taken") + &response.map_or(String::new(), |byte| format!(" response {byte:02X}"))
             }
             Record::BlockOut(length) => {
                 let mut output = vec![UNTOUCHED; *length];
@@ -81,6 +81,7 @@ impl Bench {
                 "power".to_string()
             }
             Record::ShowCard => self.shown_card(),
+            Record::ShowMode => self.shown_mode(),
             Record::ShowMemory(from, length) => {
                 let rest = self.memory.get(*from..).unwrap_or(&[]);
                 words("mem", &rest[..rest.len().min(*length)])
@@ -104,6 +105,14 @@ impl Bench {
         let Card { state, address, block_length, locked, errors, .. } = &self.card;
         let map = hex(&self.map);
         format!("card {} {address:04X} {block_length:04X} {} {errors:08X} {map}", state.number(), *locked as u8)
+    }
+
+    /// "shows mode and CRC checking": checking is shown in SPI alone, where it can be switched.
+    fn shown_mode(&self) -> String {
+        match self.card.mode {
+            Mode::Mmc => "spi 0 0".to_string(),
+            Mode::Spi { checks_crc } => format!("spi 1 {}", checks_crc as u8),
+        }
     }
 
     /// Lends "the first ones of each and, past the end, surplus bytes that hold 00"; "Surplus bytes
@@ -143,6 +152,16 @@ fn free_standing(record: &Record) -> String {
         }
         Record::CheckBlock(block) => plain(wire::check_block(block), "good"),
         _ => unreachable!("every other record is the card's"),
+    }
+}
+
+/// What a frame came to; "where an answer goes out beside the number, `N refused 3 line HEX`".
+fn heard(result: Result<Option<Vec<u8>>, Refused>) -> String {
+    match result {
+        Ok(Some(answer)) => format!("line {}", hex(&answer)),
+        Ok(None) => "silent".to_string(),
+        Err(Refused { number, answer: Some(answer) }) => format!("refused {number} line {}", hex(&answer)),
+        Err(Refused { number, answer: None }) => format!("refused {number}"),
     }
 }
 

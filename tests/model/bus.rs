@@ -1,6 +1,6 @@
 //! The bus: up to 30 cards on one line, bit by bit. "The shared line" of document 01.
 
-use crate::card::{Card, State};
+use crate::card::{Card, Mode, Select, State};
 use crate::wire::{self, Command, Refusal};
 
 /// "a bus of up to 30 such cards"
@@ -27,15 +27,20 @@ impl Bus {
         if self.cards.is_empty() {
             return Err(13);
         }
-        // "3 sets bit 23 of the card, and on a bus of every card, unless Inactive"
-        let command = wire::read_command(frame).inspect_err(|&refusal| {
-            self.cards.iter_mut().for_each(|card| card.note_damaged(refusal));
-        })?;
+        let command = wire::read_command(frame).inspect_err(|&refusal| self.hear_damaged(refusal))?;
         // "14 | index on the bus outside 0-4, 7, 9, 10, 13, 15"
         if !matches!(command.index, 0..=4 | 7 | 9 | 10 | 13 | 15) {
             return Err(14);
         }
         Ok(if command.index == 2 { self.identify(command) } else { self.ask_all(command) })
+    }
+
+    /// "3 sets bit 23 of the card, and on a bus of every card, unless Inactive"; a card in SPI ignores
+    /// the frame.
+    fn hear_damaged(&mut self, refusal: Refusal) {
+        if refusal == 3 {
+            self.cards.iter_mut().for_each(|card| drop(card.hear_damaged(Select::High)));
+        }
     }
 
     /// "Other answers show as the bitwise AND. No sender means no answer."
@@ -46,9 +51,10 @@ impl Bus {
     }
 
     /// "In CMD2 every Ready card sends its CID highest bit first and falls silent at a bit where it
-    /// sends 1 and the line shows 0."
+    /// sends 1 and the line shows 0." A card in SPI ignores the frame, whatever its state.
     fn identify(&mut self, command: Command) -> Option<Vec<u8>> {
-        let mut sending: Vec<&mut Card> = self.cards.iter_mut().filter(|card| card.state == State::Ready).collect();
+        let sends = |card: &&mut Card| card.state == State::Ready && card.mode == Mode::Mmc;
+        let mut sending: Vec<&mut Card> = self.cards.iter_mut().filter(sends).collect();
         // "No sender means no answer."
         if sending.is_empty() {
             return None;
@@ -70,9 +76,9 @@ impl Bus {
 }
 
 /// "Data commands go to the selected card's own call (H)": what the bus carries reads no memory
-/// and no map, so none is lent.
+/// and no map, so none is lent. The select line: "on a bus it is high".
 pub fn hear(card: &mut Card, command: Command) -> Option<Vec<u8>> {
-    card.hear(command, &mut [], &mut [])
+    card.hear(command, Select::High, &mut [], &mut [])
 }
 
 /// A bit of a register, 0 to 127, highest first.

@@ -1,7 +1,9 @@
 //! One card: its record, making, power-on, work done, and how it takes a frame.
-//! Every comment in quotation marks is a sentence of document 01, and the code under it says the same.
+//! Every comment in quotation marks is a sentence of document 01 or, of SPI, of request 1 of document
+//! 02, and the code under it says the same.
 
 use crate::erase::Tags;
+pub use crate::state::*;
 use crate::wire::{self, Command, Refusal};
 
 /// "Sector 512, erase group 4,096, protection group 8,192, physical read block 2,048 bytes."
@@ -25,55 +27,6 @@ pub const WP_ERASE_SKIP: u32 = 1 << 15;
 pub const ERASE_RESET: u32 = 1 << 13;
 pub const READY_FOR_DATA: u32 = 1 << 8;
 
-/// What data waits to be sent: after CMD17, CMD18 and CMD30, from which address.
-#[derive(Clone, Copy, PartialEq, Debug)]
-pub enum Sending {
-    One(u64),
-    Many(u64),
-    Protection(u64),
-}
-
-/// "the rcv state says whether it awaits one block, many or a lock request, and from which address"
-#[derive(Clone, Copy, PartialEq, Debug)]
-pub enum Awaited {
-    One(u64),
-    Many(u64),
-    Lock,
-}
-
-#[derive(Clone, Copy, PartialEq, Debug)]
-pub enum State {
-    Idle,
-    Ready,
-    Ident,
-    Stby,
-    Tran,
-    Data(Sending),
-    Rcv(Awaited),
-    Prg,
-    Dis,
-    Ina,
-}
-
-impl State {
-    /// "the state on reception, idle 0 to dis 8"; Inactive, which no R1 shows, is 9.
-    pub fn number(self) -> u32 {
-        use self::State::*;
-        match self {
-            Idle => 0,
-            Ready => 1,
-            Ident => 2,
-            Stby => 3,
-            Tran => 4,
-            Data(_) => 5,
-            Rcv(_) => 6,
-            Prg => 7,
-            Dis => 8,
-            Ina => 9,
-        }
-    }
-}
-
 #[derive(Clone, PartialEq, Debug)]
 pub struct Card {
     pub size: u64,
@@ -89,6 +42,20 @@ pub struct Card {
     /// The error bits that wait for an R1.
     pub errors: u32,
     pub tags: Option<Tags>,
+    pub mode: Mode,
+}
+
+/// What a frame is refused with: a number and, in SPI "beside number 3", the answer that goes out.
+#[derive(PartialEq, Debug)]
+pub struct Refused {
+    pub number: Refusal,
+    pub answer: Option<Vec<u8>>,
+}
+
+impl From<Refusal> for Refused {
+    fn from(number: Refusal) -> Refused {
+        Refused { number, answer: None }
+    }
 }
 
 /// What a taken command answers with.
@@ -136,16 +103,18 @@ impl Card {
             block_length: 512,
             errors: 0,
             tags: None,
+            mode: Mode::Mmc,
         };
         card.power_on();
         Ok(card)
     }
 
     /// "Power-on, from any state: Idle, address 1 (003), block length 512, no tags or error bits,
-    /// locked exactly if a password is stored."
+    /// locked exactly if a password is stored." A card "leaves [SPI] by power-on only".
     pub fn power_on(&mut self) {
         self.reset();
         self.locked = !self.password.is_empty();
+        self.mode = Mode::Mmc;
     }
 
     /// "CMD0 [..] does the same but keeps the lock flag."
@@ -173,30 +142,68 @@ impl Card {
     }
 
     /// "Frame: 1, 2, 3; at a card 12 comes first". None is silence.
-    pub fn frame(&mut self, frame: &[u8], memory: &mut [u8], map: &mut [u8]) -> Result<Option<Vec<u8>>, Refusal> {
+    pub fn frame(
+        &mut self, frame: &[u8], select: Select, memory: &mut [u8], map: &mut [u8],
+    ) -> Result<Option<Vec<u8>>, Refused> {
         self.check_lent(memory, map)?;
-        let command = wire::read_command(frame).inspect_err(|&refusal| self.note_damaged(refusal))?;
-        Ok(self.hear(command, memory, map))
+        // "1 and 2 change nothing".
+        let (command, crc7_is_right) = wire::unframe(frame)?;
+        // "CMD0 is always checked."
+        if !crc7_is_right && (self.checks_crc() || command.index == 0) {
+            return Err(Refused { number: 3, answer: self.hear_damaged(select) });
+        }
+        Ok(self.hear(command, select, memory, map))
     }
 
-    /// "3 sets bit 23 of the card [..] unless Inactive"; "1 and 2 change nothing".
-    pub fn note_damaged(&mut self, refusal: Refusal) {
-        if refusal == 3 && self.state != State::Ina {
-            self.errors |= COM_CRC_ERROR;
+    /// "3 (CMD0 apart) and 17 come only with CRC on": always on in MMC mode.
+    pub fn checks_crc(&self) -> bool {
+        self.mode != Mode::Spi { checks_crc: false }
+    }
+
+    /// "1. Inactive: silent, unchanged." In SPI "a frame with the line high is ignored".
+    fn is_deaf(&self, select: Select) -> bool {
+        self.state == State::Ina || self.mode != Mode::Mmc && select == Select::High
+    }
+
+    /// "3 sets bit 23 of the card [..] unless Inactive". "Illegal commands are answered here and,
+    /// beside number 3, a wrong CRC7", where here is SPI.
+    pub fn hear_damaged(&mut self, select: Select) -> Option<Vec<u8>> {
+        if self.is_deaf(select) {
+            return None;
         }
+        self.errors |= COM_CRC_ERROR;
+        (self.mode != Mode::Mmc).then(|| self.send_r1())
     }
 
     /// The "checks in order" of a command whose frame is not refused. None is silence.
-    pub fn hear(&mut self, command: Command, memory: &mut [u8], map: &mut [u8]) -> Option<Vec<u8>> {
-        // "1. Inactive: silent, unchanged."
-        if self.state == State::Ina {
+    pub fn hear(
+        &mut self, command: Command, select: Select, memory: &mut [u8], map: &mut [u8],
+    ) -> Option<Vec<u8>> {
+        if self.is_deaf(select) {
             return None;
         }
-        // "CMD0, legal and silent in every state but Inactive"
         if command.index == 0 {
-            self.reset();
+            return self.go_idle(select);
+        }
+        match self.mode {
+            Mode::Mmc => self.hear_in_mmc(command, memory, map),
+            Mode::Spi { .. } => Some(self.hear_in_spi(command, memory, map)),
+        }
+    }
+
+    /// "CMD0, legal and silent in every state but Inactive". "A card enters SPI when CMD0 comes with
+    /// its select line low": it answers there, as every command is answered. A card that is in SPI
+    /// already, and so heard this only with its line low, enters it again.
+    fn go_idle(&mut self, select: Select) -> Option<Vec<u8>> {
+        self.reset();
+        if select == Select::High {
             return None;
         }
+        self.mode = Mode::Spi { checks_crc: false };
+        Some(self.send_r1())
+    }
+
+    fn hear_in_mmc(&mut self, command: Command, memory: &mut [u8], map: &mut [u8]) -> Option<Vec<u8>> {
         if self.is_passed_over(command) {
             return None;
         }
@@ -226,7 +233,7 @@ impl Card {
     }
 
     /// "The legal moves stand as one fixed table": the states in which a command has a row.
-    fn has_legal_move(&self, command: Command) -> bool {
+    pub fn has_legal_move(&self, command: Command) -> bool {
         use self::State::*;
         match command.index {
             1 => self.state == Idle,
@@ -255,14 +262,7 @@ impl Card {
     /// "A command is taken if it passes checks 1 to 4".
     fn take(&mut self, command: Command, memory: &mut [u8], map: &mut [u8]) -> Option<Vec<u8>> {
         let on_reception = self.state;
-        self.drop_tags_unless_erasing(command.index);
-        // "5. Locked: only class 0 and CMD42 go on; others answer R1 with bit 24, no move."
-        let answer = if self.locked && !matches!(command.index, 0..=15 | 42) {
-            self.tags = None;
-            Answer::Status { at_once: LOCK_UNLOCK_FAILED, waiting: 0 }
-        } else {
-            self.execute(command, memory, map)
-        };
+        let answer = self.carry_out(command, memory, map);
         // "R1 reports pending bits and those its command sets at once, then clears them."
         if let Answer::Status { at_once, waiting } = answer {
             let status = self.errors | at_once | self.status_of(on_reception);

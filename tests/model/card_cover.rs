@@ -3,17 +3,19 @@
 use crate::bench::Bench;
 use crate::card::*;
 use crate::card_points::{name, ADDRESSED, BITS, LOCKABLE, STATES};
-use crate::cover::Cover;
+use crate::cover::{Cover, Seen};
 use crate::erase::{Tags, Unit};
 use crate::script::{Making, Record, Script};
 use crate::wire::{self, Refusal};
 
 /// What a state sends or awaits, as a call and what it is for.
-fn work(state: State) -> &'static str {
+pub fn work(state: State) -> &'static str {
     match state {
         State::Data(Sending::One(_)) => "block_out one",
         State::Data(Sending::Many(_)) => "block_out many",
         State::Data(Sending::Protection(_)) => "block_out protection",
+        State::Data(Sending::Csd) => "block_out CSD",
+        State::Data(Sending::Cid) => "block_out CID",
         State::Rcv(Awaited::One(_)) => "block_in one",
         State::Rcv(Awaited::Many(_)) => "block_in many",
         State::Rcv(Awaited::Lock) => "block_in lock",
@@ -22,12 +24,12 @@ fn work(state: State) -> &'static str {
 }
 
 /// The number after `refused` in a line, if it is a refusal.
-fn refusal(line: &str) -> Option<&str> {
+pub fn refusal(line: &str) -> Option<&str> {
     line.split("refused ").nth(1).and_then(|rest| rest.split(' ').next())
 }
 
 /// A refusal of a call is one point, its answer another.
-fn told(call: &str, line: &str) -> String {
+pub fn told(call: &str, line: &str) -> String {
     match refusal(line) {
         Some(number) => format!("refusal {call} {number}"),
         None => format!("answer {call}"),
@@ -35,7 +37,7 @@ fn told(call: &str, line: &str) -> String {
 }
 
 /// What an erase filled and spared of its range.
-fn erased(tags: Tags, before: &Card, after: &Card, map: &[u8]) -> String {
+pub fn erased(tags: Tags, before: &Card, after: &Card, map: &[u8]) -> String {
     let (unit, bytes) = if tags.unit == Unit::Sector { ("sector", SECTOR) } else { ("group", ERASE_GROUP) };
     let end = tags.end.expect("CMD38 needs both");
     let mut sectors = (tags.start * bytes..(end + 1) * bytes).step_by(SECTOR as usize);
@@ -48,6 +50,8 @@ fn erased(tags: Tags, before: &Card, after: &Card, map: &[u8]) -> String {
 impl Cover {
     pub fn watch_card(&mut self, script: &[u8]) {
         self.failed = None;
+        self.outlived.clear();
+        self.shown_beside_3 = false;
         let mut script = Script(script);
         let mut bench = None;
         while let Some(next) = script.next(bench.is_none()) {
@@ -76,29 +80,44 @@ impl Cover {
         let before = bench.card.clone();
         let map = bench.map.clone();
         let line = bench.line(record);
-        let state = name(before.state);
         if let Some(number) = refusal(&line) {
             self.met(format!("number {number}"));
             self.watch_lent(number, bench);
         }
+        let seen = Seen { record, line: &line, before: &before, after: &bench.card, map: &map };
+        match (record, before.mode) {
+            (Record::WriteFrame(..), _) => self.met(told("write_frame", &line)),
+            (Record::WriteBlock(..), _) => self.met(told("write_block", &line)),
+            (Record::CheckBlock(..), _) => self.met(told("check_block", &line)),
+            (_, Mode::Mmc) => self.watch_in_mmc(&seen),
+            (_, Mode::Spi { .. }) => self.watch_in_spi(&seen),
+        }
+    }
+
+    fn watch_in_mmc(&mut self, seen: &Seen) {
+        let Seen { record, line, before, after, .. } = *seen;
+        let state = name(before.state);
         match record {
-            Record::Frame(frame) => match refusal(&line) {
-                Some(number) => self.met(format!("refusal frame {number} in {state}")),
-                None => self.watch_frame(frame, &line, &before, &bench.card, &map),
-            },
-            Record::BlockIn(block) => self.watch_block_in(block, &line, &before),
+            Record::Frame(select, frame) => {
+                match refusal(line) {
+                    Some(number) => self.met(format!("refusal frame {number} in {state}")),
+                    None => self.watch_frame(frame, seen),
+                }
+                if *select == Select::Low {
+                    self.watch_low_in_mmc(frame, seen);
+                }
+            }
+            Record::BlockIn(block) => self.watch_block_in(block, seen),
             Record::BlockOut(_) => {
-                self.watch_block("block_out", &line, &before);
-                self.watch_protection(&line, &before, &map);
+                self.watch_block("block_out", line, before);
+                self.watch_protection(seen);
             }
             Record::WorkDone => self.met(format!("call work-done in {state}")),
             Record::PowerOn => {
                 self.met(format!("call power-on in {state}"));
-                self.met_if(!before.locked && bench.card.locked, "flag power-on locks");
+                self.met_if(!before.locked && after.locked, "flag power-on locks");
             }
-            Record::WriteFrame(..) => self.met(told("write_frame", &line)),
-            Record::WriteBlock(..) => self.met(told("write_block", &line)),
-            Record::CheckBlock(..) => self.met(told("check_block", &line)),
+            Record::ShowMode => self.watch_mode(line),
             _ => (),
         }
     }
@@ -123,14 +142,15 @@ impl Cover {
     }
 
     /// The protection bits that went out: the highest of the 32 is the group 31 places on.
-    fn watch_protection(&mut self, line: &str, before: &Card, map: &[u8]) {
-        if let (State::Data(Sending::Protection(address)), None) = (before.state, refusal(line)) {
-            let highest = map.get((address / PROTECTION_GROUP) as usize + 31);
+    fn watch_protection(&mut self, seen: &Seen) {
+        if let (State::Data(Sending::Protection(address)), None) = (seen.before.state, refusal(seen.line)) {
+            let highest = seen.map.get((address / PROTECTION_GROUP) as usize + 31);
             self.met_if(highest == Some(&1), "border CMD30 shows its highest bit");
         }
     }
 
-    fn watch_frame(&mut self, frame: &[u8], line: &str, before: &Card, after: &Card, map: &[u8]) {
+    fn watch_frame(&mut self, frame: &[u8], seen: &Seen) {
+        let Seen { line, before, after, map, .. } = *seen;
         let index = frame[0] & 0x3F;
         let failed = self.failed.take();
         let (from, to) = (name(before.state), name(after.state));
@@ -242,43 +262,12 @@ impl Cover {
         }
     }
 
-    fn watch_block_in(&mut self, block: &[u8], line: &str, before: &Card) {
-        self.watch_block("block_in", line, before);
-        let end = refusal(line).map_or("taken".to_string(), |number| format!("refused {number}"));
-        if before.state != State::Rcv(Awaited::Lock) || !matches!(&end[..], "taken" | "refused 20") {
-            return;
+    fn watch_block_in(&mut self, block: &[u8], seen: &Seen) {
+        self.watch_block("block_in", seen.line, seen.before);
+        if seen.before.state == State::Rcv(Awaited::Lock) && matches!(refusal(seen.line), None | Some("20")) {
+            let payload = &block[..block.len() - 2];
+            self.watch_lock_request(payload, "", seen);
+            self.watch_password(payload, refusal(seen.line).is_none(), seen.before);
         }
-        let is_listed = matches!(block[0], 0 | 1 | 2 | 4 | 5 | 8);
-        let request = if is_listed { block[0].to_string() } else { "other".to_string() };
-        let locked = if before.locked { "locked" } else { "unlocked" };
-        self.met(format!("lock {request} {locked} {end}"));
-        self.watch_password(&block[..block.len() - 2], end == "taken", before);
-    }
-
-    /// The ways in which a lock request's password is nearly right.
-    fn watch_password(&mut self, payload: &[u8], taken: bool, before: &Card) {
-        if payload[0] == 8 {
-            let past_the_block = payload.get(1).is_none_or(|&length| length as usize + 2 > payload.len());
-            self.met_if(taken && past_the_block, "password forced erase with byte 1 past the block");
-            return self.met_if(before.locked && !taken, "password forced erase refused by CSD");
-        }
-        let Some(&length) = payload.get(1) else {
-            return self.met_if(!taken, "password block without byte 1 refused");
-        };
-        let Some(sent) = payload[2..].get(..length as usize) else {
-            return self.met_if(!taken, "password block shorter than its length refused");
-        };
-        let stored = &before.password[..];
-        if matches!(payload[0], 1 | 5) {
-            let new = sent.len() as i64 - stored.len() as i64;
-            self.met_if(taken && new == 16, "password set of 16 bytes");
-            return self.met_if(!taken && new == 17 && !before.locked, "password set of 17 bytes refused");
-        }
-        let refused = !taken && before.locked == (payload[0] == 0) && !stored.is_empty();
-        let prefix = sent.len() < stored.len() && stored.starts_with(sent);
-        let one_more = stored.len() + 1 == sent.len() && sent.starts_with(stored);
-        self.met_if(refused && prefix, "password prefix refused");
-        self.met_if(refused && one_more, "password one byte more refused");
-        self.met_if(refused && sent.len() == stored.len(), "password of the same length refused");
     }
 }

@@ -1,6 +1,7 @@
 //! Everything that a card can reach in scripts of `cardline`, as points with names.
 
 use crate::card::State;
+use crate::spi_points;
 use std::collections::BTreeSet;
 
 pub const STATES: [&str; 10] = ["idle", "ready", "ident", "stby", "tran", "data", "rcv", "prg", "dis", "ina"];
@@ -37,8 +38,10 @@ const BITS_SET: [(u8, &[u32]); 15] = [
     (42, &[13]),
 ];
 
-/// The table of legal moves: command, states on reception, states after (none: the same).
-const MOVES: [(u8, &[usize], &[usize]); 25] = [
+/// A table of legal moves: command, states on reception, states after (none: the same).
+pub type Moves = &'static [(u8, &'static [usize], &'static [usize])];
+
+const MOVES: Moves = &[
     (0, &[0, 1, 2, 3, 4, 5, 6, 7, 8], &[0]),
     (1, &[0], &[0, 1, 9]),
     (2, &[1], &[2]),
@@ -102,22 +105,27 @@ pub fn expected() -> BTreeSet<String> {
     }
     points.extend(NAMED.trim().lines().map(|point| point.trim().to_string()));
     points.extend(lock_requests());
+    points.extend(spi_points::expected());
     points
 }
 
-/// The moves of the table one by one.
+/// The moves of MMC mode's table one by one.
 pub fn moves() -> Vec<(u8, &'static str, &'static str)> {
+    moves_of(MOVES)
+}
+
+pub fn moves_of(table: Moves) -> Vec<(u8, &'static str, &'static str)> {
     let mut moves = Vec::new();
-    for (index, from, to) in MOVES {
-        for before in from {
+    for (index, from, to) in table {
+        for before in *from {
             let ends = if to.is_empty() { std::slice::from_ref(before) } else { to };
-            moves.extend(ends.iter().map(|&after| (index, STATES[*before], STATES[after])));
+            moves.extend(ends.iter().map(|&after| (*index, STATES[*before], STATES[after])));
         }
     }
     moves
 }
 
-fn lock_requests() -> Vec<String> {
+pub fn lock_requests() -> Vec<String> {
     let mut points = Vec::new();
     for request in ["0", "1", "2", "4", "5", "8", "other"] {
         for locked in ["locked", "unlocked"] {

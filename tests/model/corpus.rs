@@ -15,6 +15,9 @@ const SEEDS: u64 = 1_000;
 /// The records of a script before it is cut.
 const RECORDS: usize = 300;
 
+/// The records that a script keeps behind the one that reaches a point: what that one did shows there.
+const BEHIND: usize = 3;
+
 /// What a script costs beside its bytes: the more, the fewer and the longer are the scripts.
 const COST: usize = 8_000;
 
@@ -85,7 +88,7 @@ fn choose(program: Program) -> Vec<Stored> {
     while let Some(best) = (0..candidates.len()).max_by_key(|&place| candidates[place].worth(&missing)) {
         let Candidate { seed, mut script, reached } = candidates.swap_remove(best);
         let new = reached.iter().filter(|(point, _)| missing.contains(point));
-        // The script ends behind the record that first reaches the last of the new points.
+        // The script ends a little behind the record that first reaches the last of the new points.
         let Some(end) = new.map(|(_, end)| *end).max() else { break };
         script.truncate(end);
         missing.retain(|point| !reached.iter().any(|(reached, needed)| reached == point && *needed <= end));
@@ -107,7 +110,7 @@ fn candidate(program: Program, seed: u64, points: &BTreeSet<String>) -> Candidat
     let mut cover = Cover::default();
     program.watch(&script, &mut cover);
     let places = program.places(&script);
-    let end = |met: &Met| places.get(met.first).copied().unwrap_or(script.len());
+    let end = |met: &Met| places.get(met.first + BEHIND).copied().unwrap_or(script.len());
     let numbered = points.iter().enumerate();
     let reached = numbered.filter_map(|(number, point)| Some((number, end(cover.points.get(point)?)))).collect();
     Candidate { seed, script, reached }

@@ -1,5 +1,7 @@
 //! What scripts reach, as points with names: how often, and which are missing.
 
+use crate::card::Card;
+use crate::script::Record;
 use std::collections::{BTreeMap, BTreeSet};
 
 /// How many points that were never met are named.
@@ -12,6 +14,20 @@ pub struct Cover {
     pub records: usize,
     /// The last command, if it was a tag command that failed where a range stood.
     pub failed: Option<String>,
+    /// What the tags of a card in SPI have outlived so far.
+    pub outlived: BTreeSet<&'static str>,
+    /// Whether the last record was a frame in SPI whose R1, beside number 3, showed a bit of a block.
+    pub shown_beside_3: bool,
+}
+
+/// A record of `cardline` that was played: its line, the card before and after it, and the map before.
+#[derive(Clone, Copy)]
+pub struct Seen<'a> {
+    pub record: &'a Record,
+    pub line: &'a str,
+    pub before: &'a Card,
+    pub after: &'a Card,
+    pub map: &'a [u8],
 }
 
 /// How often a point was met, and at which record first.

@@ -7,7 +7,7 @@ use crate::wire;
 
 impl Walk {
     pub fn lead_on_in_data(&mut self, sending: Sending) {
-        let needed = if let Sending::Protection(_) = sending { 6 } else { self.card().block_length as usize + 2 };
+        let needed = self.card().sent_length(sending);
         match self.dice.below(12) {
             0 => self.command(12, 0),
             1 => self.command(13, self.own()),
@@ -28,9 +28,13 @@ impl Walk {
         match self.dice.below(14) {
             0 => self.command(12, 0),
             1 => self.command(13, self.own()),
+            // A locked card seldom comes here, and most blocks lead away.
+            2 | 3 if self.card().locked => self.linger(),
             _ => {
                 let payload = if awaited == Awaited::Lock { self.lock_request() } else { self.simple_payload(512) };
-                let block = self.perhaps_damaged(wire::block(&payload));
+                let whole = self.card().framed(&payload);
+                let in_spi = self.is_in_spi();
+                let block = if in_spi { self.perhaps_damaged_in_spi(whole) } else { self.perhaps_damaged(whole) };
                 self.say(Record::BlockIn(block));
             }
         }
@@ -45,7 +49,7 @@ impl Walk {
     }
 
     /// One block in eight is of a wrong length or has a wrong CRC16.
-    fn perhaps_damaged(&mut self, mut block: Vec<u8>) -> Vec<u8> {
+    pub fn perhaps_damaged(&mut self, mut block: Vec<u8>) -> Vec<u8> {
         let length = block.len();
         match self.dice.below(40) {
             0 => block.truncate(length - 1),
@@ -111,19 +115,21 @@ impl Walk {
             4 => frame[self.dice.below(6) as usize] ^= 1 << self.dice.below(8),
             _ => frame[5] ^= 2 << self.dice.below(7),
         }
-        self.say(Record::Frame(frame));
+        let select = self.line();
+        self.say(Record::Frame(select, frame));
     }
 
     /// An index that is new here, with an argument that some command finds likely.
     pub fn any_command(&mut self) {
+        let select = self.line();
         let addressed = self.dice.pick(&[7, 9, 10, 13, 15]);
-        let index = if self.dice.percent(15) { addressed } else { self.new_index() };
+        let index = if self.dice.percent(15) { addressed } else { self.new_index(select) };
         let argument = match self.dice.below(4) {
             0 => self.own(),
             1 => self.other(),
             _ => self.address(),
         };
-        self.command(index, argument);
+        self.frame(select, index, argument);
     }
 
     pub fn show_memory(&mut self) {
@@ -172,12 +178,12 @@ impl Walk {
     /// A block in or out in whatever state the card is.
     pub fn stray_block(&mut self) {
         if self.dice.percent(50) {
-            let length = self.dice.pick(&[0, 1, 2, 3, 6, 6, 514, 514, 2_050]);
+            let length = self.dice.pick(&[0, 1, 2, 3, 6, 7, 19, 514, 515, 2_050]);
             return self.say(Record::BlockOut(length));
         }
         let length = self.dice.pick(&[0, 1, 2, 16, 512]);
         let payload = self.simple_payload(length);
-        let block = if self.dice.percent(20) { payload } else { wire::block(&payload) };
+        let block = if self.dice.percent(20) { payload } else { self.card().framed(&payload) };
         self.say(Record::BlockIn(block));
     }
 

@@ -8,12 +8,12 @@ use crate::wire::{self, register};
 
 const OCR: u32 = 0x00FF_8000;
 
-fn made(password: &[u8]) -> Result<Card, u8> {
+pub fn made(password: &[u8]) -> Result<Card, u8> {
     let zeros = register(&[0; 15]);
     Card::make(&[0xFF; 8_192], &[0], zeros, zeros, OCR, password)
 }
 
-fn bytes(hex: &str) -> Vec<u8> {
+pub fn bytes(hex: &str) -> Vec<u8> {
     (0..hex.len()).step_by(2).map(|place| u8::from_str_radix(&hex[place..place + 2], 16).unwrap()).collect()
 }
 
@@ -21,8 +21,8 @@ fn bytes(hex: &str) -> Vec<u8> {
 fn answer(frames: &[&str]) -> Result<Option<Vec<u8>>, u8> {
     let (mut memory, mut map) = (vec![0xFF; 8_192], vec![0]);
     let mut card = made(&[]).unwrap();
-    let mut answers = frames.iter().map(|frame| card.frame(&bytes(frame), &mut memory, &mut map));
-    answers.by_ref().last().unwrap()
+    let mut answers = frames.iter().map(|frame| card.frame(&bytes(frame), Select::High, &mut memory, &mut map));
+    answers.by_ref().last().unwrap().map_err(|refused| refused.number)
 }
 
 /// CMD1, CMD2 and CMD3 with address 1 take a made card to Stand-by; CMD7 to 1 takes it on to tran.

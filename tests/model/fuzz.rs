@@ -76,10 +76,10 @@ impl Fuzz<'_> {
     fn damage(&mut self, script: &mut Vec<u8>) {
         let any = self.dice.below(script.len() as u64 + 1) as usize;
         let few = 1 + self.dice.below(8) as usize;
-        match self.dice.below(10) {
+        match self.dice.below(11) {
             0 | 1 => script.get_mut(any).into_iter().for_each(|byte| *byte ^= 1 << self.dice.below(8)),
             2 => {
-                let strange = self.dice.pick(&[0x00, 0x01, 0x02, 0x09, 0x0D, 0x10, 0x7F, 0x80, 0xFF]);
+                let strange = self.dice.pick(&[0x00, 0x01, 0x02, 0x09, 0x0D, 0x0E, 0x0F, 0x10, 0x7F, 0x80, 0xFF]);
                 script.get_mut(any).into_iter().for_each(|byte| *byte = strange);
             }
             3 => drop(script.splice(any..any, (0..few).map(|_| self.dice.byte()))),
@@ -91,6 +91,7 @@ impl Fuzz<'_> {
                 *script = [&script[..front], &other[back..]].concat();
             }
             7 => self.repeat(script),
+            8 if self.program == Program::Cardline => self.turn_line(script),
             _ => self.change_frame(script),
         }
     }
@@ -102,11 +103,20 @@ impl Fuzz<'_> {
         script.splice(to..to, part.into_iter().take(2_000));
     }
 
+    /// The other level of the select line for a frame.
+    fn turn_line(&mut self, script: &mut [u8]) {
+        let place = self.some_place(script);
+        if let Some(kind @ (0x02 | 0x0E)) = script.get_mut(place) {
+            *kind ^= 0x02 ^ 0x0E;
+        }
+    }
+
     /// Another command in a frame, with its CRC7 right: damage that is not seen as such.
     fn change_frame(&mut self, script: &mut [u8]) {
         let place = self.some_place(script);
-        let head: &[u8] = if self.program == Program::Cardline { &[0x02, 6] } else { &[0x02] };
-        let Some(frame) = script[place..].strip_prefix(head).and_then(|rest| rest.first_chunk::<6>()) else { return };
+        let heads: &[&[u8]] = if self.program == Program::Cardline { &[&[0x02, 6], &[0x0E, 6]] } else { &[&[0x02]] };
+        let Some(head) = heads.iter().find(|head| script[place..].starts_with(head)) else { return };
+        let Some(frame) = script[place + head.len()..].first_chunk::<6>() else { return };
         let mut argument = [frame[1], frame[2], frame[3], frame[4]];
         argument[self.dice.below(4) as usize] = self.dice.pick(&[0x00, 0x01, 0x02, 0x10, 0x80, 0xFF]);
         let index = if self.dice.percent(50) { frame[0] & 0x3F } else { self.dice.below(64) as u8 };

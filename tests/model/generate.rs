@@ -3,6 +3,7 @@
 use crate::bench::Bench;
 use crate::dice::Dice;
 use crate::script::{Making, Record};
+use crate::spi_walk::{Given, Habits};
 use crate::walk::Walk;
 use crate::wire;
 
@@ -13,7 +14,8 @@ pub fn script(seed: u64, records: usize) -> Vec<u8> {
     let Ok(bench) = Bench::make(&making) else {
         return cut_sometimes(&mut dice, script);
     };
-    let mut walk = Walk { dice, bench, script, left: records, given: [[0; 10]; 2] };
+    let habits = Habits::of(&mut dice);
+    let mut walk = Walk { dice, bench, script, left: records, given: Given::default(), habits };
     while walk.left > 0 {
         walk.step();
     }
@@ -75,8 +77,8 @@ fn spoil(making: &mut Making, dice: &mut Dice) {
 /// How a script ends: cleanly, or with a record that stops it, and one more that must not be reached.
 fn ending(dice: &mut Dice) -> Vec<u8> {
     let long = dice.pick(&[4_097u16, 0x2000, 0xFFFF]).to_be_bytes();
-    let stops: [Vec<u8>; 9] = [
-        vec![dice.pick(&[0x00, 0x01, 0x0E, 0x0F, 0x10, 0x80, 0xFF])],
+    let stops = [
+        vec![dice.pick(&[0x00, 0x01, 0x7F, 0x80, 0xFF])],
         vec![0x03, long[0], long[1]],
         vec![0x04, long[0], long[1]],
         vec![0x08, 0, 0, 0, long[0], long[1]],
@@ -90,14 +92,15 @@ fn ending(dice: &mut Dice) -> Vec<u8> {
     if dice.percent(30) {
         return Vec::new();
     }
-    let mut ending = stops[dice.below(9) as usize].clone();
+    let mut ending = stops[dice.below(stops.len() as u64) as usize].clone();
     ending.extend(Record::ShowCard.written());
     if dice.percent(40) {
         let cuts = [
             vec![0x02], vec![0x02, 6, 0x40], vec![0x03, 0], vec![0x03, 0, 5, 1], vec![0x04, 0], vec![0x08, 0, 0, 0, 0],
             vec![0x09, 0, 0, 0], vec![0x0A, 0], vec![0x0B, 0, 0, 0, 0, 0], vec![0x0C, 0, 1, 0x80, 0], vec![0x0D, 0],
+            vec![0x0E], vec![0x0E, 6, 0x40],
         ];
-        ending = cuts[dice.below(11) as usize].clone();
+        ending = cuts[dice.below(cuts.len() as u64) as usize].clone();
     }
     ending
 }

@@ -24,10 +24,18 @@ mod generate;
 mod generate_bus;
 mod hex;
 mod lock;
+mod lock_cover;
 mod moves;
 mod program;
 mod requests;
 mod script;
+mod spi;
+mod spi_cover;
+#[cfg(test)]
+mod spi_examples;
+mod spi_points;
+mod spi_walk;
+mod state;
 mod vectors;
 mod walk;
 mod wire;

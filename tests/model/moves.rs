@@ -8,7 +8,26 @@ use crate::wire::Command;
 /// "6. Argument errors: R1 with the bit, no move."
 pub type Checked = Result<State, u32>;
 
+/// "5. Locked: only class 0 and CMD42 go on": class 0 is 0 to 15 and, of the two of SPI, 58 and 59.
+fn goes_on_locked(index: u8) -> bool {
+    matches!(index, 0..=15 | 42 | 58 | 59)
+}
+
 impl Card {
+    /// What a taken command does, in either mode: tags, the lock, then the command itself.
+    pub fn carry_out(&mut self, command: Command, memory: &mut [u8], map: &mut [u8]) -> Answer {
+        self.drop_tags_unless_erasing(command.index);
+        // "5. [..] others answer R1 with bit 24, no move."
+        if self.locked && !goes_on_locked(command.index) {
+            self.tags = None;
+            return Answer::Status { at_once: LOCK_UNLOCK_FAILED, waiting: 0 };
+        }
+        match self.mode {
+            Mode::Mmc => self.execute(command, memory, map),
+            Mode::Spi { .. } => self.execute_in_spi(command, memory, map),
+        }
+    }
+
     /// Carries out a command that has a legal move and is not stopped by the lock.
     pub fn execute(&mut self, command: Command, memory: &mut [u8], map: &mut [u8]) -> Answer {
         match command.index {

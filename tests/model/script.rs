@@ -1,10 +1,12 @@
 //! A script of `cardline`: one byte of kind, then a body, all numbers high byte first.
 //! Quoted sentences are from docs/CARDLINE.md.
 
+use crate::card::Select;
+
 #[derive(Clone)]
 pub enum Record {
     Make(Making),
-    Frame(Vec<u8>),
+    Frame(Select, Vec<u8>),
     BlockIn(Vec<u8>),
     BlockOut(usize),
     WorkDone,
@@ -16,6 +18,7 @@ pub enum Record {
     WriteFrame(u8, u32, usize),
     WriteBlock(Vec<u8>, usize),
     CheckBlock(Vec<u8>),
+    ShowMode,
 }
 
 #[derive(Clone)]
@@ -69,10 +72,7 @@ impl Script<'_> {
 
     fn body(&mut self, kind: u8) -> Result<Record, Stop> {
         Ok(match kind {
-            0x02 => {
-                let length = self.number(1)?;
-                Record::Frame(self.bytes(length)?)
-            }
+            0x02 => Record::Frame(Select::High, self.short_bytes()?),
             0x03 => Record::BlockIn(self.long_bytes()?),
             0x04 => Record::BlockOut(self.length()?),
             0x05 => Record::WorkDone,
@@ -84,6 +84,8 @@ impl Script<'_> {
             0x0B => Record::WriteFrame(self.number(1)? as u8, self.number(4)? as u32, self.number(1)?),
             0x0C => Record::WriteBlock(self.long_bytes()?, self.length()?),
             0x0D => Record::CheckBlock(self.long_bytes()?),
+            0x0E => Record::Frame(Select::Low, self.short_bytes()?),
+            0x0F => Record::ShowMode,
             _ => return Err(BAD_KIND),
         })
     }
@@ -112,6 +114,12 @@ impl Script<'_> {
         if length > 4_096 { Err(TOO_BIG) } else { Ok(length) }
     }
 
+    /// Bytes behind a length of one byte.
+    fn short_bytes(&mut self) -> Result<Vec<u8>, Stop> {
+        let length = self.number(1)?;
+        self.bytes(length)
+    }
+
     fn long_bytes(&mut self) -> Result<Vec<u8>, Stop> {
         let length = self.length()?;
         self.bytes(length)
@@ -123,7 +131,7 @@ impl Record {
     pub fn written(&self) -> Vec<u8> {
         match self {
             Record::Make(making) => making.written(),
-            Record::Frame(bytes) => [&[0x02, bytes.len() as u8], &bytes[..]].concat(),
+            Record::Frame(select, bytes) => [&[kind_of_frame(*select), bytes.len() as u8], &bytes[..]].concat(),
             Record::BlockIn(block) => [&[0x03][..], &number(block.len(), 2), block].concat(),
             Record::BlockOut(length) => [&[0x04][..], &number(*length, 2)].concat(),
             Record::WorkDone => vec![0x05],
@@ -139,6 +147,7 @@ impl Record {
                 [&[0x0C][..], &number(payload.len(), 2), payload, &number(*output, 2)].concat()
             }
             Record::CheckBlock(block) => [&[0x0D][..], &number(block.len(), 2), block].concat(),
+            Record::ShowMode => vec![0x0F],
         }
     }
 }
@@ -148,6 +157,14 @@ impl Making {
         let head = [&[0x01][..], &number(self.memory_length, 3), &[self.filled_with, self.map.len() as u8]].concat();
         let registers = [&self.cid[..], &self.csd, &self.ocr.to_be_bytes()].concat();
         [&head[..], &self.map, &registers, &[self.password.len() as u8], &self.password].concat()
+    }
+}
+
+/// The record of a frame tells by its kind how the select line is.
+fn kind_of_frame(select: Select) -> u8 {
+    match select {
+        Select::High => 0x02,
+        Select::Low => 0x0E,
     }
 }
 

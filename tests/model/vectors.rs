@@ -38,12 +38,9 @@ fn of_bytes(verb: &str, bytes: &[u8]) -> Option<String> {
             Ok(command) => told(command.index, command.argument),
             Err(refusal) => refused(refusal),
         },
-        "unframe" => match wire::read_command(bytes) {
-            Ok(command) => told(command.index, command.argument) + " crc right",
-            // Its length and framing bits are right, or it would be 1 or 2.
-            Err(3) => {
-                let argument = u32::from_be_bytes([bytes[1], bytes[2], bytes[3], bytes[4]]);
-                told(bytes[0] & 0x3F, argument) + " crc wrong"
+        "unframe" => match wire::unframe(bytes) {
+            Ok((command, crc7_is_right)) => {
+                told(command.index, command.argument) + if crc7_is_right { " crc right" } else { " crc wrong" }
             }
             Err(refusal) => refused(refusal),
         },

@@ -5,7 +5,7 @@ use crate::bench::Bench;
 use crate::card::*;
 use crate::dice::Dice;
 use crate::script::Record;
-use crate::wire;
+use crate::spi_walk::{Given, Habits};
 
 pub struct Walk {
     pub dice: Dice,
@@ -13,8 +13,8 @@ pub struct Walk {
     pub script: Vec<u8>,
     /// How many records may still be written.
     pub left: usize,
-    /// The commands that were given so far, unlocked and locked, by state: a bit for each index.
-    pub given: [[u64; 10]; 2],
+    pub given: Given,
+    pub habits: Habits,
 }
 
 impl Walk {
@@ -27,21 +27,8 @@ impl Walk {
     }
 
     pub fn command(&mut self, index: u8, argument: u32) {
-        *self.given_here() |= 1 << index;
-        self.say(Record::Frame(wire::command(index, argument).to_vec()));
-    }
-
-    /// The commands that were given to the card in its state.
-    fn given_here(&mut self) -> &mut u64 {
-        let Card { locked, state, .. } = self.bench.card;
-        &mut self.given[locked as usize][state.number() as usize]
-    }
-
-    /// An index that was not yet given in the card's state, if there is one.
-    pub fn new_index(&mut self) -> u8 {
-        let any = self.dice.below(64);
-        let given = *self.given_here();
-        (any..any + 64).map(|index| index % 64).find(|index| given >> index & 1 == 0).unwrap_or(any) as u8
+        let select = self.line();
+        self.frame(select, index, argument);
     }
 
     pub fn card(&self) -> &Card {
@@ -60,10 +47,14 @@ impl Walk {
 
     /// One step, or a few that belong together.
     pub fn step(&mut self) {
+        if self.changes_mode() {
+            return;
+        }
         match self.dice.below(100) {
             0..=4 => self.damaged_frame(),
             5..=11 => self.any_command(),
-            12..=17 => self.say(Record::ShowCard),
+            12 => self.say(Record::ShowMode),
+            13..=17 => self.say(Record::ShowCard),
             18..=19 => self.show_memory(),
             20 => self.lend_wrong(),
             21 => self.poke_wrong(),
@@ -94,9 +85,14 @@ impl Walk {
 
     /// A likely next step of a card in its state.
     fn lead_on(&mut self) {
-        let state = self.card().state;
+        if self.is_in_spi() && self.dice.percent(30) {
+            return self.step_of_spi();
+        }
+        let Card { state, locked, .. } = *self.card();
         match state {
-            // These states are left at the first right command, so the walk lingers in them.
+            // These states are left at the first right command, so the walk lingers in them, above all
+            // with a locked card, which seldom comes far.
+            State::Dis if locked && self.dice.percent(50) => self.linger(),
             State::Idle | State::Ready | State::Ident | State::Dis if self.dice.percent(40) => self.linger(),
             State::Stby | State::Prg if self.dice.percent(25) => self.linger(),
             State::Idle => self.identify(),
@@ -106,32 +102,18 @@ impl Walk {
                 let rest = self.dice.word() & 0xFFFF;
                 self.command(3, address | rest);
             }
-            State::Stby => match self.dice.below(14) {
-                0 => self.command(9, self.own()),
-                1 => self.command(10, self.own()),
-                2 => self.command(13, self.own()),
-                3 if self.dice.percent(20) => self.command(15, self.own()),
-                _ => self.command(7, self.own()),
-            },
-            State::Tran if self.card().locked => self.lead_on_locked(),
+            State::Stby => self.lead_on_in_stby(),
+            State::Tran if locked => self.lead_on_locked(),
             State::Tran => self.lead_on_in_tran(),
             State::Data(sending) => self.lead_on_in_data(sending),
             State::Rcv(awaited) => self.lead_on_in_rcv(awaited),
-            State::Prg | State::Dis => match self.dice.below(8) {
-                0 => self.command(13, self.own()),
-                1 => self.command(7, self.own()),
-                2 | 3 => {
-                    let other = self.other();
-                    self.command(7, other);
-                }
-                _ => self.say(Record::WorkDone),
-            },
+            State::Prg | State::Dis => self.lead_on_at_work(),
             State::Ina if self.dice.percent(75) => self.linger(),
             State::Ina => self.say(Record::PowerOn),
         }
     }
 
-    fn linger(&mut self) {
+    pub fn linger(&mut self) {
         match self.dice.below(10) {
             0 => self.damaged_frame(),
             1 => self.stray_block(),
@@ -149,6 +131,28 @@ impl Walk {
             2 => self.command(1, high | ocr & ocr.wrapping_neg()),
             3 => self.command(1, high | 0xFF_FFFF),
             _ => self.command(1, high | ocr & 0xFF_FFFF),
+        }
+    }
+
+    fn lead_on_in_stby(&mut self) {
+        match self.dice.below(14) {
+            0 => self.command(9, self.own()),
+            1 => self.command(10, self.own()),
+            2 => self.command(13, self.own()),
+            3 if self.dice.percent(20) => self.command(15, self.own()),
+            _ => self.command(7, self.own()),
+        }
+    }
+
+    fn lead_on_at_work(&mut self) {
+        match self.dice.below(8) {
+            0 => self.command(13, self.own()),
+            1 => self.command(7, self.own()),
+            2 | 3 => {
+                let other = self.other();
+                self.command(7, other);
+            }
+            _ => self.say(Record::WorkDone),
         }
     }
 
@@ -247,6 +251,7 @@ impl Walk {
             match self.dice.below(50) {
                 0 => self.restart(),
                 1..=4 => self.step(),
+                5..=14 if self.is_in_spi() => self.leave_alone(),
                 _ => (),
             }
         }

@@ -1,4 +1,4 @@
-//! Frames and blocks on the wire: "Frames and blocks" of document 01.
+//! Frames and blocks on the wire: "Frames and blocks" of document 01, and what SPI's blocks have before them.
 //!
 //! The product works its checks from tables. Here both are a long division, one bit at a time,
 //! so that the two share nothing but the generator polynomials.
@@ -41,8 +41,15 @@ pub fn last_byte(message: &[u8]) -> u8 {
     crc7(message) << 1 | 1
 }
 
-/// "0, 1, index (6), argument (32), CRC7, 1". "Frame: 1, 2, 3".
+/// "Frame: 1, 2, 3".
 pub fn read_command(frame: &[u8]) -> Result<Command, Refusal> {
+    let (command, crc7_is_right) = unframe(frame)?;
+    // "3 | frame CRC7 wrong"
+    if crc7_is_right { Ok(command) } else { Err(3) }
+}
+
+/// "0, 1, index (6), argument (32), CRC7, 1": the command, and whether its CRC7 is right.
+pub fn unframe(frame: &[u8]) -> Result<(Command, bool), Refusal> {
     // "1 | frame is not 6 bytes"
     if frame.len() != 6 {
         return Err(1);
@@ -54,12 +61,8 @@ pub fn read_command(frame: &[u8]) -> Result<Command, Refusal> {
     if start_bit != 0 || transmission_bit != 1 || end_bit != 1 {
         return Err(2);
     }
-    // "3 | frame CRC7 wrong"
-    if frame[5] >> 1 != crc7(&frame[..5]) {
-        return Err(3);
-    }
     let argument = u32::from_be_bytes([frame[1], frame[2], frame[3], frame[4]]);
-    Ok(Command { index: frame[0] & 0x3F, argument })
+    Ok((Command { index: frame[0] & 0x3F, argument }, frame[5] >> 1 == crc7(&frame[..5])))
 }
 
 /// Five bytes of content with their last byte.
@@ -105,6 +108,14 @@ pub fn r3(ocr: u32) -> Vec<u8> {
 /// "Data blocks are 1 to 2,048 bytes, then CRC16, high byte first"
 pub fn block(payload: &[u8]) -> Vec<u8> {
     [payload, &crc16(payload).to_be_bytes()].concat()
+}
+
+/// Before each block in SPI: document 02's "start byte FE".
+pub const START_BYTE: u8 = 0xFE;
+
+/// A block in SPI.
+pub fn spi_block(payload: &[u8]) -> Vec<u8> {
+    [&[START_BYTE], &block(payload)[..]].concat()
 }
 
 /// Whether the last two bytes of a block of at least two are the CRC16 of those before them.

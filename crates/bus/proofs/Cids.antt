@@ -13,8 +13,6 @@ use native.Mathlib.Omega.{arith}
 use lib.ListN.{length}
 use Rattle.base.proofs.Cases.{cases}
 use Rattle.card_record.specs.Sending.{sentBytes}
-use Rattle.command.proofs.Verdict.{lost-unchanged}
-use Rattle.command.specs.Command.{metBy, commandOf}
 use Rattle.command.specs.declared.Commanded.{Commanded}
 use Rattle.card_record.specs.declared.Sent.{Sent}
 use Rattle.crc.proofs.Bits.{octets-bits, octets-below, length-bits}
@@ -24,9 +22,9 @@ use Rattle.shared_line.proofs.Together.{OneVoice, one-voice}
 use Rattle.shared_line.specs.Line.{contested, together}
 use Rattle.card_record.specs.declared.Card.{Card}
 use Rattle.wire.specs.Responses.{r2Frame}
-use Rattle.bus.proofs.Sending.{cid-won}
+use Rattle.bus.proofs.Taking.{taken-lost, taken-won}
 use Rattle.bus.proofs.Winners.{cid-bitwise}
-use Rattle.bus.specs.Bus.{isReady, cidSender, cidBits, winsLine, commandAt, frameFrom, anyReady, longestOf, frameSender, cidLine, andLine}
+use Rattle.bus.specs.Bus.{isReady, cidSender, cidBits, winsLine, commandOn, commandAt, frameFrom, anyReady, longestOf, frameSender, cidLine, andLine}
 use Rattle.bus.specs.Contest.{cidOf, Held}
 
 any-ready : (cards : List Card) → anyReady cards ≡ true → (card : Card) × List·Memᴰ card cards × (isReady card ≡ true)
@@ -83,16 +81,16 @@ module _ (cards : List Card) (held : (card : Card) → List·Memᴰ card cards �
   frame-lost : (card : Card) → winsLine cards card ≡ false → frameFrom cards 2 argument card ≡ []
   unfolding frameFrom commandAt sentBytes
   frame-lost card t =
-      ap (λ (w : Bool). sentBytes (card .registers) (commandOf (card .link) (metBy card w) 2 argument .sent)) t
-      ∙ ap (λ (c : Commanded). sentBytes (card .registers) (c .sent)) (lost-unchanged card argument)
+      ap (λ (w : Bool). sentBytes (card .registers) (commandOn card w 2 argument .sent)) t
+      ∙ ap (λ (c : Commanded). sentBytes (card .registers) (c .sent)) (taken-lost card argument)
 
   frame-won : (card : Card) → List·Memᴰ card cards → winsLine cards card ≡ true → frameFrom cards 2 argument card ≡ voice
   unfolding frameFrom commandAt sentBytes r2Frame
   frame-won card m t =
       let h = held card m in
       let s = winner card m t in
-      ap (λ (w : Bool). sentBytes (card .registers) (commandOf (card .link) (metBy card w) 2 argument .sent)) t
-      ∙ ap (λ (x : Sent). sentBytes (card .registers) x) (cid-won card argument (s .0))
+      ap (λ (w : Bool). sentBytes (card .registers) (commandOn card w 2 argument .sent)) t
+      ∙ ap (λ (x : Sent). sentBytes (card .registers) x) (taken-won card argument (s .0))
       ∙ ap (λ (l : List ℕ). 0x3F ∷ l)
       (sym (octets-bits (cidOf card) (h .1)) ∙ ap (λ (n : ℕ). octets n (bits (cidOf card))) (h .0) ∙ ap (octets 16) (s .1))
 

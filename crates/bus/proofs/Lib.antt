@@ -1,7 +1,9 @@
 pub mod Asking
 pub mod Cids
+pub mod InSpi
 pub mod Lists
 pub mod Sending
+pub mod Taking
 pub mod Telling
 pub mod Winners
 pub mod WrongAnswers

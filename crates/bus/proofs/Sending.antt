@@ -1,5 +1,5 @@
 -- What a card sends at a command on the bus. One that loses CMD2 sends nothing (`lost-unchanged` of command).
---   cid-won     a Ready card that wins CMD2 sends its CID
+--   cid-won     a card in the state Ready that wins CMD2 sends its CID
 -- Assumes nothing.
 use mathlib.Core.Path.{_≡_, refl, ap}
 use mathlib.Core.Bool.{true, false≢true}
@@ -17,7 +17,6 @@ use Rattle.card_record.specs.declared.Link.{Link}
 use Rattle.states.specs.States.{columnOf, columnNumber}
 use Rattle.states.specs.declared.Column.{Column}
 use Rattle.states.specs.declared.Column.the-variants.{Idle, Ready, Ident, Stby, Tran, Data, Rcv, Prg, Dis, Ina}
-use Rattle.bus.specs.Bus.{isReady}
 
 ready-column : (column : Column) → eqb (columnNumber column) 1 ≡ true → column ≡ Ready
 ready-column Idle e = absurd (false≢true e)
@@ -37,7 +36,8 @@ unfolding moveOf takenOf answered responseOf
 won-sent link met argument column e =
     ap (λ (k : Column). movedBy link met (receivedOf link met 2 argument) AllSendCidWon (moveOf AllSendCidWon k) .sent) e
 
-pub cid-won : (card : Card) (argument : ℕ) → isReady card ≡ true → commandOf (card .link) (metBy card true) 2 argument .sent ≡ Cid
+pub cid-won : (card : Card) (argument : ℕ) → eqb (columnNumber (columnOf (card .link .state))) 1 ≡ true
+    → commandOf (card .link) (metBy card true) 2 argument .sent ≡ Cid
 unfolding commandOf rowOf
 cid-won card argument r =
     won-sent (card .link) (metBy card true) argument (columnOf (card .link .state)) (ready-column (columnOf (card .link .state)) r)

@@ -24,9 +24,7 @@ use Rattle.base.proofs.Cases.{cases}
 use Rattle.base.proofs.Copying.{copied-front}
 use Rattle.base.specs.Output.{copied}
 use Rattle.card_record.specs.Sending.{sentBytes}
-use Rattle.command.proofs.Verdict.{any-wins}
-use Rattle.command.proofs.Alone.{left-alone}
-use Rattle.command.specs.Command.{metBy, commandOf, decidedOf, leavesAlone}
+use Rattle.command.specs.Command.{leavesAlone}
 use Rattle.command.specs.declared.Commanded.{Commanded}
 use Rattle.command.specs.declared.Decided.{Decided}
 use Rattle.crc.specs.Bits.{octets, Below}
@@ -37,10 +35,11 @@ use Rattle.card_record.specs.Record.{withLink}
 use Rattle.card_record.specs.declared.Card.{Card}
 use Rattle.bus.proofs.Cids.{cid-line}
 use Rattle.bus.proofs.Lists.{changed, changed-next, change-turn, set-same, first-all, getD-in}
+use Rattle.bus.proofs.Taking.{taken-alone, taken-any}
 use Rattle.bus.proofs.Winners.{holders}
-use Rattle.bus.specs.Bus.{countOf, cardsOf, withCards, winsLine, commandAt, cardAfter, frameFrom, longestOf, frameSender, cidLine, andLine, lineOf, shownOf, padded}
+use Rattle.bus.specs.Bus.{countOf, cardsOf, withCards, winsLine, commandOn, commandAt, cardAfter, frameFrom, longestOf, frameSender, cidLine, andLine, lineOf, shownOf, padded}
 use Rattle.bus.specs.Contest.{lowFrom, lowFor, holdsLow, Held, HeldAll}
-use Rattle.bus.specs.Hearing.{quiet, heardOf, heardFrom, turnOf, sentOn, toldOf}
+use Rattle.bus.specs.Hearing.{quiet, heardOf, heardFrom, decidedAt, turnOf, sentOn, toldOf}
 use Rattle.bus.specs.declared.Bus.{Bus}
 use Rattle.bus.specs.declared.Framed.{Framed}
 use Rattle.bus.specs.declared.Heard.{Heard}
@@ -102,27 +101,27 @@ unfolding heardOf
 quiet-heard heard = let e : max (heard .length) 0 ≡ heard .length = omega arith in ap₂ held (and-nothing (heard .line)) e
 
 pub turn-alone : (heard : Heard) (card : Card) (wins : Bool) (index argument : ℕ)
-    → leavesAlone (decidedOf (card .link) (metBy card wins) index argument) ≡ true
+    → leavesAlone (decidedAt card wins index argument) ≡ true
     → turnOf heard card wins index argument ≡ turned card heard
 unfolding turnOf sentBytes
 turn-alone heard card wins index argument e =
-    ap (λ (g : Commanded). turnedBy heard card g) (left-alone (card .link) (metBy card wins) index argument e)
+    ap (λ (g : Commanded). turnedBy heard card g) (taken-alone card wins index argument e)
     ∙ ap (λ (h : Heard). turned card h) (quiet-heard heard)
 
 -- ---- who wins
 pub turn-right : (bus : Bus) (index argument : ℕ) (low : Low) (card : Card) → low ≡ lowFor bus index → HeldAll bus index
     → List·Memᴰ card (cardsOf bus)
-    → commandOf (card .link) (metBy card (holdsLow low card)) index argument ≡ commandAt (cardsOf bus) index argument card
+    → commandOn card (holdsLow low card) index argument ≡ commandAt (cardsOf bus) index argument card
 unfolding commandAt lowFor
 turn-right bus index argument low card e held m =
     cases (eqb index 2)
     (λ (t : eqb index 2 ≡ true).
     let all = first-all Held (countOf bus) (bus .cards) (held (eqb-true index 2 t)) in
     let found : low ≡ lowFrom noLow (cardsOf bus) = simp t at e in
-    ap (λ (w : Bool). commandOf (card .link) (metBy card w) index argument)
+    ap (λ (w : Bool). commandOn card w index argument)
     (ap (λ (l : Low). holdsLow l card) found ∙ holders (cardsOf bus) all card m))
     (λ (t : eqb index 2 ≡ false).
-    any-wins card (holdsLow low card) (winsLine (cardsOf bus) card) index argument t)
+    taken-any card (holdsLow low card) (winsLine (cardsOf bus) card) index argument t)
 
 -- one turn: the card after it, and what the line then holds
 module _ (bus : Bus) (index argument : ℕ) where
@@ -153,7 +152,7 @@ module _ (bus : Bus) (index argument : ℕ) where
   pub tell-alone : (i : ℕ) (d : Card) (low : Low) (next : List Card) (heard : Heard) (won : Bool) (decided : Decided)
       → length (bus .cards) ≡ 30 → i < countOf bus → low ≡ lowFor bus index → HeldAll bus index
       → next ≡ changed after i (bus .cards) → heard ≡ heardFrom quiet (map frame (take i (bus .cards)))
-      → won ≡ holdsLow low (getD next i d) → decided ≡ decidedOf (getD next i d .link) (metBy (getD next i d) won) index argument
+      → won ≡ holdsLow low (getD next i d) → decided ≡ decidedAt (getD next i d) won index argument
       → leavesAlone decided ≡ true
       → (next ≡ changed after (i + 1) (bus .cards)) × (heard ≡ heardFrom quiet (map frame (take (i + 1) (bus .cards))))
   tell-alone i d low next heard won decided long there found held en eh ew ed alone =

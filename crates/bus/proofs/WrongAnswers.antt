@@ -25,8 +25,15 @@
 --   cmd3-tells-address     CMD3 gives its address to a Ready card
 --   line-ored              two OCRs that differ show as their OR
 --   silence-shown          no sender, and a line of bytes
+-- Of a frame that meets a card in SPI:
+--   bus-wakes-spi          CMD0 takes it back to MMC mode
+--   bus-resets-spi         CMD0 takes it from tran to idle
+--   damage-told-spi        a wrong CRC7 sets its bit 23
+--   spi-ready-sends        one in Ready sends its CID in CMD2
+--   spi-ready-beats        one in Ready keeps the line from a larger CID
+--   spi-ready-moves        one in Ready goes to ident in CMD2
 -- Assumes nothing.
-use mathlib.Core.Bool.{true}
+use mathlib.Core.Bool.{true, false}
 use mathlib.Core.List.{List, [], _∷_, _++_}
 use mathlib.Core.Path.{_≡_, ap}
 use Prim.Native.Nat.{ℕ, _-_}
@@ -46,14 +53,16 @@ use Rattle.moves.specs.Classes.{classOf}
 use Rattle.moves.specs.Moves.{moveOf}
 use Rattle.moves.specs.Rows.{rowOf}
 use Rattle.card_record.specs.Making.{refusedMake}
+use Rattle.card_record.specs.Power.{mmcMode}
+use Rattle.card_record.specs.Record.{withMode}
 use Rattle.card_record.specs.declared.Card.{Card}
 use Rattle.states.specs.declared.State.{State}
-use Rattle.states.specs.declared.State.the-variants.{Idle, Ready, Ident, Stby, Ina}
+use Rattle.states.specs.declared.State.the-variants.{Idle, Ready, Ident, Stby, Tran, Ina}
 use Rattle.status.specs.Status.{wordOf}
 use Rattle.tags.specs.Tagging.{noTags}
 use Rattle.wire.specs.Frames.{crc7Of, sealed, fieldsOf, framingOf}
 use Rattle.wire.specs.Responses.{r1Frame, r2Frame, r3Frame}
-use Rattle.bus.specs.Bus.{withCards, emptyBus, addedTo, takenFrom, putInto, commandAt, cardAfter, frameFrom, anyReady, longestOf, cidLine, andLine, lineOf, padded, commandFor, busFrame}
+use Rattle.bus.specs.Bus.{withCards, emptyBus, addedTo, takenFrom, putInto, commandOn, commandAt, cardAfter, frameFrom, anyReady, longestOf, cidLine, andLine, lineOf, padded, commandFor, busFrame}
 use Rattle.bus.specs.declared.Adding.the-variants.{Place}
 use Rattle.bus.specs.declared.Bus.{Bus}
 use Rattle.bus.specs.declared.Shown.the-variants.{Line, Silent, Refused}
@@ -65,7 +74,12 @@ card state ocr last =
       registers = record { cid = replicate 15 0 ++ last ∷ []; csd = replicate 16 0; ocr = ocr; groups = 1 };
       lock = noPassword;
       link = record { state = state; address = 1; length = 512; errors = record { bits = 0 }; tags = noTags };
+      mode = mmcMode;
     }
+
+-- one in SPI, with CRC checking on
+abbrev inSpi : Card → Card
+inSpi c = withMode c (record { spi = true; checks = true })
 
 abbrev ready : ℕ → Card
 ready = card Ready 0x00FF8000
@@ -116,7 +130,10 @@ put-behind : at (putInto (bus (ready 1 ∷ [])) 1 (ready 2)) 1 .link .state ≡ 
 unfolding putInto refusedMake
 put-behind e = let z : _≡_ {A = ℕ} 0 1 = cc in omega arith
 
--- CMD0 with a wrong CRC7, CMD1, CMD2, CMD3 to address 2, CMD12
+-- CMD0, and with a wrong CRC7, CMD1, CMD2, CMD3 to address 2, CMD12
+abbrev cmd0 : List ℕ
+cmd0 = 0x40 ∷ 0x00 ∷ 0x00 ∷ 0x00 ∷ 0x00 ∷ 0x95 ∷ []
+
 abbrev damaged : List ℕ
 damaged = 0x40 ∷ 0x00 ∷ 0x00 ∷ 0x00 ∷ 0x00 ∷ 0x97 ∷ []
 
@@ -156,29 +173,53 @@ unfolding busFrame framingOf fieldsOf crc7Of remainder divide bits withCards dam
 damage-kept-from-last e = omega arith
 
 highest-shown : shows (ready 1) (ready 2) cmd2 ≡ 0x3F ∷ ready 2 .registers .cid → ⊥
-unfolding busFrame framingOf fieldsOf crc7Of remainder divide bits commandFor withCards commandAt cardAfter frameFrom lineOf cidLine andLine anyReady longestOf padded line contested wins together commandOf rowOf moveOf takenOf actedOf afterChecks judgedOf taggingOf argumentFault resetTold obeyed awaitedBy changeOf responseOf answered classOf wordOf sentBytes r1Frame r2Frame r3Frame sealed holding refusedMake
+unfolding busFrame framingOf fieldsOf crc7Of remainder divide bits commandFor withCards commandOn commandAt cardAfter frameFrom lineOf cidLine andLine anyReady longestOf padded line contested wins together commandOf rowOf moveOf takenOf actedOf afterChecks judgedOf taggingOf argumentFault resetTold obeyed awaitedBy changeOf responseOf answered classOf wordOf sentBytes r1Frame r2Frame r3Frame sealed holding refusedMake
 highest-shown e = let z : _≡_ {A = ℕ} 1 2 = ap (λ (l : List ℕ). getD l 16 0) e in omega arith
 
 loser-moves : at (after (ready 1) (ready 2) cmd2) 1 .link .state ≡ Ident → ⊥
-unfolding busFrame framingOf fieldsOf crc7Of remainder divide bits commandFor withCards commandAt cardAfter frameFrom lineOf cidLine andLine anyReady longestOf padded line contested wins together commandOf rowOf moveOf takenOf actedOf afterChecks judgedOf taggingOf argumentFault resetTold obeyed awaitedBy changeOf responseOf answered classOf wordOf sentBytes r1Frame r2Frame r3Frame sealed holding refusedMake
+unfolding busFrame framingOf fieldsOf crc7Of remainder divide bits commandFor withCards commandOn commandAt cardAfter frameFrom lineOf cidLine andLine anyReady longestOf padded line contested wins together commandOf rowOf moveOf takenOf actedOf afterChecks judgedOf taggingOf argumentFault resetTold obeyed awaitedBy changeOf responseOf answered classOf wordOf sentBytes r1Frame r2Frame r3Frame sealed holding refusedMake
 loser-moves e = let z : _≡_ {A = ℕ} 0 1 = cc in omega arith
 
 winner-waits : at (after (ready 1) (ready 2) cmd2) 0 .link .state ≡ Ready → ⊥
-unfolding busFrame framingOf fieldsOf crc7Of remainder divide bits commandFor withCards commandAt cardAfter frameFrom lineOf cidLine andLine anyReady longestOf padded line contested wins together commandOf rowOf moveOf takenOf actedOf afterChecks judgedOf taggingOf argumentFault resetTold obeyed awaitedBy changeOf responseOf answered classOf wordOf sentBytes r1Frame r2Frame r3Frame sealed holding refusedMake
+unfolding busFrame framingOf fieldsOf crc7Of remainder divide bits commandFor withCards commandOn commandAt cardAfter frameFrom lineOf cidLine andLine anyReady longestOf padded line contested wins together commandOf rowOf moveOf takenOf actedOf afterChecks judgedOf taggingOf argumentFault resetTold obeyed awaitedBy changeOf responseOf answered classOf wordOf sentBytes r1Frame r2Frame r3Frame sealed holding refusedMake
 winner-waits e = let z : _≡_ {A = ℕ} 0 1 = cc in omega arith
 
 cmd3-reaches-ready : at (after (card Ident 0x00FF8000 1) (ready 2) cmd3) 1 .link .state ≡ Stby → ⊥
-unfolding busFrame framingOf fieldsOf crc7Of remainder divide bits commandFor withCards commandAt cardAfter frameFrom lineOf cidLine andLine anyReady longestOf padded line contested wins together commandOf rowOf moveOf takenOf actedOf afterChecks judgedOf taggingOf argumentFault resetTold obeyed awaitedBy changeOf responseOf answered classOf wordOf sentBytes r1Frame r2Frame r3Frame sealed holding refusedMake
+unfolding busFrame framingOf fieldsOf crc7Of remainder divide bits commandFor withCards commandOn commandAt cardAfter frameFrom lineOf cidLine andLine anyReady longestOf padded line contested wins together commandOf rowOf moveOf takenOf actedOf afterChecks judgedOf taggingOf argumentFault resetTold obeyed awaitedBy changeOf responseOf answered classOf wordOf sentBytes r1Frame r2Frame r3Frame sealed holding refusedMake
 cmd3-reaches-ready e = let z : _≡_ {A = ℕ} 0 1 = cc in omega arith
 
 cmd3-tells-address : at (after (card Ident 0x00FF8000 1) (ready 2) cmd3) 1 .link .address ≡ 2 → ⊥
-unfolding busFrame framingOf fieldsOf crc7Of remainder divide bits commandFor withCards commandAt cardAfter frameFrom lineOf cidLine andLine anyReady longestOf padded line contested wins together commandOf rowOf moveOf takenOf actedOf afterChecks judgedOf taggingOf argumentFault resetTold obeyed awaitedBy changeOf responseOf answered classOf wordOf sentBytes r1Frame r2Frame r3Frame sealed holding refusedMake
+unfolding busFrame framingOf fieldsOf crc7Of remainder divide bits commandFor withCards commandOn commandAt cardAfter frameFrom lineOf cidLine andLine anyReady longestOf padded line contested wins together commandOf rowOf moveOf takenOf actedOf afterChecks judgedOf taggingOf argumentFault resetTold obeyed awaitedBy changeOf responseOf answered classOf wordOf sentBytes r1Frame r2Frame r3Frame sealed holding refusedMake
 cmd3-tells-address e = omega arith
 
 line-ored : getD (shows (card Idle 0x00C00000 1) (card Idle 0x00300000 2) cmd1) 2 0 ≡ 0xF0 → ⊥
-unfolding busFrame framingOf fieldsOf crc7Of remainder divide bits commandFor withCards commandAt cardAfter frameFrom lineOf cidLine andLine anyReady longestOf padded line contested wins together commandOf rowOf moveOf takenOf actedOf afterChecks judgedOf taggingOf argumentFault resetTold obeyed awaitedBy changeOf responseOf answered classOf wordOf sentBytes r1Frame r2Frame r3Frame sealed holding refusedMake
+unfolding busFrame framingOf fieldsOf crc7Of remainder divide bits commandFor withCards commandOn commandAt cardAfter frameFrom lineOf cidLine andLine anyReady longestOf padded line contested wins together commandOf rowOf moveOf takenOf actedOf afterChecks judgedOf taggingOf argumentFault resetTold obeyed awaitedBy changeOf responseOf answered classOf wordOf sentBytes r1Frame r2Frame r3Frame sealed holding refusedMake
 line-ored e = omega arith
 
 silence-shown : busFrame (bus (card Stby 0x00FF8000 1 ∷ [])) cmd2 .shown ≡ Line 17 → ⊥
-unfolding busFrame framingOf fieldsOf crc7Of remainder divide bits commandFor withCards commandAt cardAfter frameFrom lineOf cidLine andLine anyReady longestOf padded line contested wins together commandOf rowOf moveOf takenOf actedOf afterChecks judgedOf taggingOf argumentFault resetTold obeyed awaitedBy changeOf responseOf answered classOf wordOf sentBytes r1Frame r2Frame r3Frame sealed holding refusedMake
+unfolding busFrame framingOf fieldsOf crc7Of remainder divide bits commandFor withCards commandOn commandAt cardAfter frameFrom lineOf cidLine andLine anyReady longestOf padded line contested wins together commandOf rowOf moveOf takenOf actedOf afterChecks judgedOf taggingOf argumentFault resetTold obeyed awaitedBy changeOf responseOf answered classOf wordOf sentBytes r1Frame r2Frame r3Frame sealed holding refusedMake
 silence-shown e = let z : _≡_ {A = ℕ} 0 1 = cc in omega arith
+
+bus-wakes-spi : at (after (inSpi (card Tran 0x00FF8000 1)) (ready 2) cmd0) 0 .mode .spi ≡ false → ⊥
+unfolding busFrame framingOf fieldsOf crc7Of remainder divide bits commandFor withCards commandOn commandAt cardAfter frameFrom lineOf cidLine andLine anyReady longestOf padded line contested wins together commandOf rowOf moveOf takenOf actedOf afterChecks judgedOf taggingOf argumentFault resetTold obeyed awaitedBy changeOf responseOf answered classOf wordOf sentBytes r1Frame r2Frame r3Frame sealed holding refusedMake
+bus-wakes-spi e = let z : _≡_ {A = ℕ} 0 1 = cc in omega arith
+
+bus-resets-spi : at (after (inSpi (card Tran 0x00FF8000 1)) (ready 2) cmd0) 0 .link .state ≡ Idle → ⊥
+unfolding busFrame framingOf fieldsOf crc7Of remainder divide bits commandFor withCards commandOn commandAt cardAfter frameFrom lineOf cidLine andLine anyReady longestOf padded line contested wins together commandOf rowOf moveOf takenOf actedOf afterChecks judgedOf taggingOf argumentFault resetTold obeyed awaitedBy changeOf responseOf answered classOf wordOf sentBytes r1Frame r2Frame r3Frame sealed holding refusedMake
+bus-resets-spi e = let z : _≡_ {A = ℕ} 0 1 = cc in omega arith
+
+damage-told-spi : at (after (inSpi (card Tran 0x00FF8000 1)) (ready 2) damaged) 0 .link .errors .bits ≡ 0x00800000 → ⊥
+unfolding busFrame framingOf fieldsOf crc7Of remainder divide bits withCards damagedLink refusedMake
+damage-told-spi e = omega arith
+
+spi-ready-sends : busFrame (bus (inSpi (ready 1) ∷ [])) cmd2 .shown ≡ Line 17 → ⊥
+unfolding busFrame framingOf fieldsOf crc7Of remainder divide bits commandFor withCards commandOn commandAt cardAfter frameFrom lineOf cidLine andLine anyReady longestOf padded line contested wins together commandOf rowOf moveOf takenOf actedOf afterChecks judgedOf taggingOf argumentFault resetTold obeyed awaitedBy changeOf responseOf answered classOf wordOf sentBytes r1Frame r2Frame r3Frame sealed holding refusedMake
+spi-ready-sends e = let z : _≡_ {A = ℕ} 0 1 = cc in omega arith
+
+spi-ready-beats : getD (shows (inSpi (ready 1)) (ready 2) cmd2) 16 0 ≡ 1 → ⊥
+unfolding busFrame framingOf fieldsOf crc7Of remainder divide bits commandFor withCards commandOn commandAt cardAfter frameFrom lineOf cidLine andLine anyReady longestOf padded line contested wins together commandOf rowOf moveOf takenOf actedOf afterChecks judgedOf taggingOf argumentFault resetTold obeyed awaitedBy changeOf responseOf answered classOf wordOf sentBytes r1Frame r2Frame r3Frame sealed holding refusedMake
+spi-ready-beats e = omega arith
+
+spi-ready-moves : at (after (inSpi (ready 1)) (ready 2) cmd2) 0 .link .state ≡ Ident → ⊥
+unfolding busFrame framingOf fieldsOf crc7Of remainder divide bits commandFor withCards commandOn commandAt cardAfter frameFrom lineOf cidLine andLine anyReady longestOf padded line contested wins together commandOf rowOf moveOf takenOf actedOf afterChecks judgedOf taggingOf argumentFault resetTold obeyed awaitedBy changeOf responseOf answered classOf wordOf sentBytes r1Frame r2Frame r3Frame sealed holding refusedMake
+spi-ready-moves e = let z : _≡_ {A = ℕ} 0 1 = cc in omega arith

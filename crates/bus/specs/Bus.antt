@@ -1,6 +1,6 @@
 -- Document 01, "The shared line": a bus of up to 30 cards, and a frame for all of them. "at a bus 13, 1, 2, 3, 14".
 -- Assumes nothing.
-use mathlib.Core.Bool.{Bool, true, false, _||_}
+use mathlib.Core.Bool.{Bool, true, false, not, _&&_, _||_}
 use mathlib.Core.List.{List, [], _∷_, _++_, map}
 use Prim.Native.Nat.{ℕ, suc, _*_, _-_, min, max}
 use lib.Dec.{eqb, leb, ltb}
@@ -9,6 +9,7 @@ use Rattle.base.specs.Choice.{pick, unless}
 use Rattle.base.specs.Refusals.{by}
 use Rattle.base.specs.declared.Refusal.{Refusal}
 use Rattle.card_record.specs.Sending.{sentBytes}
+use Rattle.command.specs.Answers.{silent}
 use Rattle.command.specs.Command.{metBy, damagedLink, commandOf}
 use Rattle.command.specs.declared.Commanded.{Commanded}
 use Rattle.crc.specs.Bits.{bits, octets}
@@ -64,9 +65,9 @@ takenFrom bus place =
 unfoldable pub putInto : Bus → ℕ → Card → Bus
 putInto bus place card = unless (ltb place (countOf bus)) bus (record { cards = set (bus .cards) place card; count = bus .count })
 
--- "In CMD2 every Ready card sends its CID highest bit first"
+-- "In CMD2 every Ready card sends its CID highest bit first"; a card in SPI ignores what comes with its line high
 abbrev pub isReady : Card → Bool
-isReady card = eqb (columnNumber (columnOf (card .link .state))) 1
+isReady card = not (card .mode .spi) && eqb (columnNumber (columnOf (card .link .state))) 1
 
 abbrev pub cidSender : Card → Sender
 cidSender card = record { on = isReady card; bits = bits (card .registers .cid) }
@@ -78,9 +79,13 @@ cidBits = 128
 abbrev pub winsLine : List Card → Card → Bool
 winsLine cards card = wins cidBits (map cidSender cards) (cidSender card)
 
--- what a command does at one card of these
+-- what a command does at a card of a bus that wins the line, or does not: in SPI "a frame with the line high is ignored (on a bus it is high)"
+unfoldable pub commandOn : Card → Bool → ℕ → ℕ → Commanded
+commandOn card wins index argument = pick (card .mode .spi) (silent (card .link)) (commandOf (card .link) (metBy card wins) index argument)
+
+-- .. at one card of these
 unfoldable pub commandAt : List Card → ℕ → ℕ → Card → Commanded
-commandAt cards index argument card = commandOf (card .link) (metBy card (winsLine cards card)) index argument
+commandAt cards index argument card = commandOn card (winsLine cards card) index argument
 
 unfoldable pub cardAfter : List Card → ℕ → ℕ → Card → Card
 cardAfter cards index argument card = withLink card (commandAt cards index argument card .link)
@@ -123,12 +128,12 @@ padded line = line ++ replicate (17 - length line) 0
 abbrev pub busIndices : List ℕ
 busIndices = 0 ∷ 1 ∷ 2 ∷ 3 ∷ 4 ∷ 7 ∷ 9 ∷ 10 ∷ 13 ∷ 15 ∷ []
 
--- a frame that is refused: "3 sets bit 23 .. on a bus of every card, unless Inactive"
+-- a frame that is refused: "3 sets bit 23 .. on a bus of every card, unless Inactive", and of none in SPI
 abbrev pub refusedOn : Bus → Refusal → Answered
 refusedOn bus refusal = record { bus = bus; shown = Refused refusal; line = replicate 17 0 }
 
 abbrev pub damagedCard : Card → Card
-damagedCard card = withLink card (damagedLink (card .link))
+damagedCard card = pick (card .mode .spi) card (withLink card (damagedLink (card .link)))
 
 -- a command for all cards
 unfoldable pub commandFor : Bus → ℕ → ℕ → Answered

@@ -6,18 +6,21 @@ use mathlib.Core.List.{List, [], _∷_, map}
 use Prim.Native.Nat.{ℕ, max}
 use lib.Dec.{leb}
 use lib.ListN.{length, take, replicate}
-use Rattle.base.specs.Choice.{unless}
+use Rattle.base.specs.Choice.{pick, unless}
 use Rattle.base.specs.Refusals.{by}
 use Rattle.card_record.specs.Sending.{sentBytes}
-use Rattle.command.specs.Command.{metBy, commandOf}
+use Rattle.command.specs.Command.{metBy, decidedOf}
+use Rattle.command.specs.declared.Decided.{Decided}
 use Rattle.shared_line.specs.Bytes.{anded}
 use Rattle.moves.specs.Indices.{among}
+use Rattle.moves.specs.declared.Move.the-variants.{Ignored}
+use Rattle.moves.specs.declared.Row.the-variants.{Unsupported}
 use Rattle.card_record.specs.Record.{withLink}
 use Rattle.card_record.specs.declared.Card.{Card}
 use Rattle.wire.specs.Frames.{framingOf}
 use Rattle.wire.specs.declared.Framing.{Framing}
 use Rattle.wire.specs.declared.Framing.the-variants.{Framed, Unframed}
-use Rattle.bus.specs.Bus.{cardsOf, withCards, cardAfter, lineOf, shownOf, padded, busIndices}
+use Rattle.bus.specs.Bus.{cardsOf, withCards, commandOn, cardAfter, lineOf, shownOf, padded, busIndices}
 use Rattle.bus.specs.declared.Asked.{Asked}
 use Rattle.bus.specs.declared.Asked.the-variants.{Command, Damaged, Refused}
 use Rattle.bus.specs.declared.Bus.{Bus}
@@ -45,12 +48,17 @@ unfoldable pub heardFrom : Heard → List (List ℕ) → Heard
 heardFrom heard [] = heard
 heardFrom heard (frame ∷ frames) = heardFrom (heardOf heard frame) frames
 
+-- what is decided at a card: one in SPI ignores the command
+abbrev pub decidedAt : Card → Bool → ℕ → ℕ → Decided
+decidedAt card wins index argument =
+    pick (card .mode .spi) (record { row = Unsupported; next = Ignored }) (decidedOf (card .link) (metBy card wins) index argument)
+
 -- one card's turn
 unfoldable pub turnOf : Heard → Card → Bool → ℕ → ℕ → Turned
 turnOf heard card wins index argument =
     record {
-      card = withLink card (commandOf (card .link) (metBy card wins) index argument .link);
-      heard = heardOf heard (sentBytes (card .registers) (commandOf (card .link) (metBy card wins) index argument .sent));
+      card = withLink card (commandOn card wins index argument .link);
+      heard = heardOf heard (sentBytes (card .registers) (commandOn card wins index argument .sent));
     }
 
 -- what was sent, of the bytes that the line holds

@@ -11,6 +11,9 @@ ghost use Rattle.bus.specs.Contest.{betterOf, lowFor, holdsLow, Held, He
 fn is_ready(card: Card) -> bool
     ensures { λ r. ⌜ r ≡ isReady card ⌝ }
 {
+    if card.mode.spi {
+        return false;
+    }
     let link = card.link;
     let state = link.state;
     let on = states::column_of(state);

@@ -12,12 +12,14 @@ use card_record::Registers;
 use card_record::Sent;
 use command::Decided;
 use command::Met;
+use moves::Move;
+use moves::Row;
 use wire::Framing;
 ghost use mathlib.Core.Path.{_≡_};
 ghost use Prim.Native.Nat.{_≤_, max};
 ghost use Rattle.bus.specs.Bus.{shownOf, padded, busIndices};
-ghost use Rattle.bus.specs.Hearing.{busAsked, quiet, heardOf, turnOf, sentOn};
-ghost use Rattle.command.specs.Command.{metBy, decidedOf};
+ghost use Rattle.bus.specs.Hearing.{busAsked, quiet, heardOf, decidedAt, turnOf, sentOn};
+ghost use Rattle.command.specs.Command.{metBy};
 ghost use Rattle.card_record.specs.Sending.{sentBytes, Sendable};
 ghost use Rattle.crc.specs.Bits.{Below};
 ghost use Rattle.moves.specs.Indices.{among};
@@ -107,10 +109,17 @@ fn met_by(card: Card, wins: bool) -> Met
     }
 }
 
-// What a command finds at a card, which is only looked at.
+// What a command finds at a card, which is only looked at: one in SPI ignores it, since its select
+// line is high.
 pub fn decide(card: Card, wins: bool, index: u8, argument: u32) -> Decided
-    ensures { λ r. ⌜ r ≡ decidedOf (card .link) (metBy card wins) index argument ⌝ }
+    ensures { λ r. ⌜ r ≡ decidedAt card wins index argument ⌝ }
 {
+    if card.mode.spi {
+        return Decided {
+            row: Row::Unsupported,
+            next: Move::Ignored,
+        };
+    }
     let link = card.link;
     command::decide(link, met_by(card, wins), index, argument)
 }
@@ -124,7 +133,7 @@ pub fn turn(
     argument: u32,
     decided: Decided,
 ) -> Turned
-    requires { ⌜ (heard .length ≤ 17) × (index ≤ 63) × (decided ≡ decidedOf (card .link) (metBy card wins) index argument) ⌝ }
+    requires { ⌜ (heard .length ≤ 17) × (index ≤ 63) × (decided ≡ decidedAt card wins index argument) ⌝ }
     ensures answer { λ r. ⌜ r ≡ turnOf heard card wins index argument ⌝ }
     ensures short { λ r. ⌜ r .heard .length ≤ 17 ⌝ }
 {

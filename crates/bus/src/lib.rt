@@ -160,6 +160,9 @@ fn refuse(bus: Bus, refusal: Refusal) -> Framed
 fn damaged(card: Card) -> Card
     ensures { λ r. ⌜ r ≡ damagedCard card ⌝ }
 {
+    if card.mode.spi {
+        return card;
+    }
     let link = card.link;
     Card {
         link: command::damaged(link),

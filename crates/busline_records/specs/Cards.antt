@@ -5,7 +5,7 @@ use Prim.Native.Nat.{ℕ}
 use lib.ListN.{replicate}
 use Rattle.lock.specs.Passwords.{noPassword}
 use Rattle.card_record.specs.Making.{madeOf}
-use Rattle.card_record.specs.Power.{freshLink}
+use Rattle.card_record.specs.Power.{freshLink, mmcMode}
 use Rattle.card_record.specs.declared.Card.{Card}
 use Rattle.card_record.specs.declared.Made.{Made}
 use Rattle.busline_records.specs.Reading.{identifierOf}
@@ -27,4 +27,10 @@ cardMade s = madeWith (identifierOf s) .card
 
 -- the record that this gives, whatever the CID: law `card-of`
 unfoldable pub dockCard : List ℕ → Card
-dockCard cid = record { registers = record { cid = cid; csd = dockCsd; ocr = dockOcr; groups = 1 }; lock = noPassword; link = freshLink }
+dockCard cid =
+    record {
+      registers = record { cid = cid; csd = dockCsd; ocr = dockOcr; groups = 1 };
+      lock = noPassword;
+      link = freshLink;
+      mode = mmcMode;
+    }

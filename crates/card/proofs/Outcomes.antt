@@ -11,40 +11,44 @@ use lib.Dec.{eqb}
 use lib.ListN.{length, take}
 use Rattle.base.proofs.Cases.{guarded}
 use Rattle.base.specs.Refusals.{refusalOf, by}
-use Rattle.command.specs.Command.{metBy, damagedLink, commandOf}
+use Rattle.command.specs.Command.{metBy}
 use Rattle.crc.specs.Bits.{bits}
 use Rattle.moves.specs.Indices.{among}
-use Rattle.card_record.specs.Record.{withLink}
 use Rattle.card_record.specs.declared.Card.{Card}
 use Rattle.store.proofs.OnceLent.{once-lent}
 use Rattle.store.specs.Lent.{Seen, lendingOf}
 use Rattle.store.specs.declared.Lending.the-variants.{Right}
-use Rattle.wire.specs.Frames.{crc7Of, field, fieldsOf, framingOf, checked, frameOf}
-use Rattle.wire.specs.declared.Frame.the-variants.{Command}
+use Rattle.wire.specs.Frames.{crc7Of, field, fieldsOf, framingOf}
 use Rattle.wire.specs.declared.Framing.{Framing}
 use Rattle.wire.specs.declared.Framing.the-variants.{Framed}
 use Rattle.card.specs.Frame.{FrameJudged, frameRefused, commanded, framed, frameJudged, sparedTold}
+use Rattle.card_blocks.specs.declared.Outcome.the-variants.{Done, Refused}
 use Rattle.card_blocks.specs.declared.Stepped.{Stepped}
+use Rattle.spi.specs.Hearing.{heardOf, crcPasses, damagedOf}
 
--- a frame: 12, 1, 2; 3, with bit 23; a command that was read
-pub data FrameOutcome (card : Card) (wins : Bool) (frame : List ℕ) (seen : Seen) : FrameJudged → Type 0 where
-  unheard : (n : ℕ) → among n (12 ∷ 1 ∷ 2 ∷ []) ≡ true → FrameOutcome card wins frame seen (frameRefused card (refusalOf n))
-  damaged : FrameOutcome card wins frame seen (frameRefused (withLink card (damagedLink (card .link))) (by 3))
-  commands : (index argument : ℕ) → frameOf frame ≡ Command index argument → lendingOf seen (card .registers .groups) ≡ Right
-      → FrameOutcome card wins frame seen (commanded card (commandOf (card .link) (metBy card wins) index argument))
+-- a frame: 12, 1, 2; 3, where its CRC7 is wrong and counts; a command that was read, its CRC7 right or not counting
+pub data FrameOutcome (card : Card) (wins selected : Bool) (frame : List ℕ) (seen : Seen) : FrameJudged → Type 0 where
+  unheard : (n : ℕ) → among n (12 ∷ 1 ∷ 2 ∷ []) ≡ true → FrameOutcome card wins selected frame seen (frameRefused card (refusalOf n))
+  damaged : (index argument : ℕ) → framingOf frame ≡ Framed index argument false → crcPasses (card .mode) index false ≡ false
+      → FrameOutcome card wins selected frame seen (commanded card (Refused (by 3)) (damagedOf (card .mode) selected (card .link)))
+  commands : (index argument : ℕ) (right : Bool) → framingOf frame ≡ Framed index argument right → crcPasses (card .mode) index right ≡ true
+      → lendingOf seen (card .registers .groups) ≡ Right
+      → FrameOutcome card wins selected frame seen
+      (commanded card Done (heardOf (card .mode) selected (card .link) (metBy card wins) index argument))
 
-module _ (card : Card) (wins : Bool) (frame : List ℕ) (seen : Seen) where
-  abbrev Heard : FrameJudged → Type 0
-  Heard = FrameOutcome card wins frame seen
+module _ (card : Card) (wins selected : Bool) (frame : List ℕ) (seen : Seen) where
+  abbrev Hears : FrameJudged → Type 0
+  Hears = FrameOutcome card wins selected frame seen
 
   module _ (lent : lendingOf seen (card .registers .groups) ≡ Right) where
     -- a framing, where it is the frame's
     abbrev Reads : Framing → Type 0
-    Reads framing = frameOf frame ≡ checked framing → Heard (framed card wins framing)
+    Reads framing = framingOf frame ≡ framing → Hears (framed card wins selected framing)
 
     by-crc : (index argument : ℕ) (right : Bool) → Reads (Framed index argument right)
-    by-crc index argument true e = commands index argument e lent
-    by-crc index argument false e = damaged
+    by-crc index argument true e = commands index argument true e refl lent
+    by-crc index argument false e =
+        guarded Hears (crcPasses (card .mode) index false) (λ t. damaged index argument e t) (λ t. commands index argument false e t lent)
 
     by-bits : (sent : List ℕ) → Reads (fieldsOf sent)
     unfolding fieldsOf
@@ -60,9 +64,9 @@ module _ (card : Card) (wins : Bool) (frame : List ℕ) (seen : Seen) where
     unfolding framingOf
     by-length = guarded Reads (eqb (length frame) 6) (λ t e. unheard 1 refl) (λ t. by-bits (bits frame))
 
-  pub frame-outcome : FrameOutcome card wins frame seen (frameJudged card wins frame seen)
-  unfolding frameJudged frameOf
-  frame-outcome = once-lent seen (card .registers .groups) Heard (frameRefused card) (unheard 12 refl) (λ t. by-length t refl)
+  pub frame-outcome : FrameOutcome card wins selected frame seen (frameJudged card wins selected frame seen)
+  unfolding frameJudged
+  frame-outcome = once-lent seen (card .registers .groups) Hears (frameRefused card) (unheard 12 refl) (λ t. by-length t refl)
 
 pub told : (P : Stepped → Type 0) (stepped : Stepped) (spared : Bool) → P (sparedTold stepped true) → P stepped → P (sparedTold stepped spared)
 told P stepped true spares kept = spares

@@ -2,7 +2,7 @@
 -- that gave the wrong answer would make the two equal. (Those of a frame are laws of the crates above.) Of a command at a link:
 --   skip-untold     an erase that spared a sector, untold
 --   skip-always     bit 15 where none was spared
---   skip-waits      what is sent is as `command` gives it, so that bit 15 waits for the next R1
+--   skip-waits      what is sent is as `spi` gives it, so that bit 15 waits for the next R1
 --   group-unset     CMD28 that leaves the map as it was
 --   set-fills       CMD28 that writes memory
 -- Assumes nothing.
@@ -20,9 +20,11 @@ use Rattle.command.specs.declared.Change.the-variants.{Protect}
 use Rattle.command.specs.declared.Met.{Met}
 use Rattle.moves.specs.Moves.{moveOf}
 use Rattle.moves.specs.Rows.{transferRow, rowOf}
-use Rattle.card_record.specs.Power.{freshLink}
+use Rattle.card_record.specs.Power.{freshLink, mmcMode}
 use Rattle.card_record.specs.Record.{withState, withTags}
 use Rattle.card_record.specs.declared.Link.{Link}
+use Rattle.card_record.specs.declared.Mode.{Mode}
+use Rattle.spi.specs.Hearing.{heardOf}
 use Rattle.states.specs.declared.State.the-variants.{Tran}
 use Rattle.store.specs.Erase.{sparedTo, anySpared}
 use Rattle.store.specs.Lent.{Seen, lentOf, seenOf}
@@ -35,21 +37,21 @@ use Rattle.card.specs.declared.Answered.{Answered}
 -- CMD38 in tran, sector 1 tagged, under a map of one group
 abbrev erasing : List ℕ → Answered
 erasing map =
-    commandHeard (withTags (withState freshLink Tran) (tagsOf (Full Sectors 1 1)))
+    commandHeard mmcMode false (withTags (withState freshLink Tran) (tagsOf (Full Sectors 1 1)))
     (record { ocr = 0x00FF8000; groups = 1; locked = false; wins = true }) false 38 0 (seenOf 8192 map)
 
 skip-untold : erasing (1 ∷ []) .link .errors .bits ≡ 0 → ⊥
-unfolding freshLink commandHeard commandOf rowOf transferRow moveOf takenOf actedOf judgedOf taggingOf afterChecks answered responseOf resetTold obeyed awaitedBy changeOf anySpared sparedTo
+unfolding freshLink commandHeard heardOf commandOf rowOf transferRow moveOf takenOf actedOf judgedOf taggingOf afterChecks answered responseOf resetTold obeyed awaitedBy changeOf anySpared sparedTo
 skip-untold e = let z : _≡_ {A = ℕ} 0x8000 0 = e in omega arith
 
 skip-always : erasing (0 ∷ []) .link .errors .bits ≡ 0x8000 → ⊥
-unfolding freshLink commandHeard commandOf rowOf transferRow moveOf takenOf actedOf judgedOf taggingOf afterChecks answered responseOf resetTold obeyed awaitedBy changeOf anySpared sparedTo
+unfolding freshLink commandHeard heardOf commandOf rowOf transferRow moveOf takenOf actedOf judgedOf taggingOf afterChecks answered responseOf resetTold obeyed awaitedBy changeOf anySpared sparedTo
 skip-always e = let z : _≡_ {A = ℕ} 0 0x8000 = e in omega arith
 
-skip-waits : (link : Link) (met : Met) (whole : Bool) (index argument : ℕ) (seen : Seen)
-    → commandHeard link met whole index argument seen .sent ≡ commandOf link met index argument .sent
+skip-waits : (mode : Mode) (selected : Bool) (link : Link) (met : Met) (whole : Bool) (index argument : ℕ) (seen : Seen)
+    → commandHeard mode selected link met whole index argument seen .sent ≡ heardOf mode selected link met index argument .sent
 unfolding commandHeard
-skip-waits link met whole index argument seen = refl
+skip-waits mode selected link met whole index argument seen = refl
 
 group-unset : changed (freshLink .tags) false (Protect 0 true) (lentOf [] (0 ∷ [])) .map ≡ 0 ∷ [] → ⊥
 group-unset e = clash (sym (ap (λ (l : List ℕ). getD l 0 0) e))

@@ -1,4 +1,4 @@
--- Document 01, "How a card takes a frame": a frame at a card. "Frame: 1, 2, 3; at a card 12 comes first".
+-- Document 01, "How a card takes a frame", and document 02, request 1: a frame at a card. "Frame: 1, 2, 3; at a card 12 comes first".
 -- Assumes nothing.
 use mathlib.Core.Bool.{Bool, true, false}
 use mathlib.Core.List.{List}
@@ -8,16 +8,19 @@ use Rattle.base.specs.Refusals.{by}
 use Rattle.base.specs.declared.Refusal.{Refusal}
 use Rattle.card_blocks.specs.Replies.{replied, refused}
 use Rattle.card.specs.declared.Answered.{Answered}
-use Rattle.card_blocks.specs.declared.Outcome.the-variants.{Done}
+use Rattle.card_blocks.specs.declared.Outcome.{Outcome}
+use Rattle.card_blocks.specs.declared.Outcome.the-variants.{Done, Refused}
 use Rattle.card_blocks.specs.declared.Stepped.{Stepped}
-use Rattle.command.specs.Command.{metBy, damagedLink, commandOf}
+use Rattle.command.specs.Command.{metBy}
 use Rattle.command.specs.declared.Change.{Change}
 use Rattle.command.specs.declared.Change.the-variants.{Nothing, Protect, Erase}
-use Rattle.command.specs.declared.Commanded.{Commanded}
 use Rattle.command.specs.declared.Met.{Met}
 use Rattle.card_record.specs.Record.{csdProtects, withErrors, withLink}
 use Rattle.card_record.specs.declared.Card.{Card}
 use Rattle.card_record.specs.declared.Link.{Link}
+use Rattle.card_record.specs.declared.Mode.{Mode}
+use Rattle.spi.specs.Hearing.{heardOf, crcPasses, damagedOf}
+use Rattle.spi.specs.declared.Heard.{Heard}
 use Rattle.status.specs.ErrorBits.{errorBit}
 use Rattle.status.specs.Status.{withBit}
 use Rattle.store.specs.Erase.{erased, anySpared}
@@ -37,22 +40,26 @@ pub record FrameJudged : Type 0 where
 abbrev pub frameRefused : Card → Refusal → FrameJudged
 frameRefused card refusal = record { stepped = refused card refusal; change = Nothing }
 
--- a command as the card took it
-abbrev pub commanded : Card → Commanded → FrameJudged
-commanded card given = record { stepped = replied (withLink card (given .link)) Done (given .sent); change = given .change }
+-- the record after a command: commands change link and mode alone
+abbrev pub hearing : Card → Heard → Card
+hearing card heard = record { registers = card .registers; lock = card .lock; link = heard .link; mode = heard .mode }
 
--- 1 and 2, which "change nothing"; 3, with bit 23; then the command. "In its own call a card is alone on the line, so CMD2 wins"; a card
--- that shares its line is told whether it won
-abbrev pub framed : Card → Bool → Framing → FrameJudged
-framed card wins (Unframed refusal) = frameRefused card refusal
-framed card wins (Framed index argument right) =
-    unless right (frameRefused (withLink card (damagedLink (card .link))) (by 3))
-    (commanded card (commandOf (card .link) (metBy card wins) index argument))
+-- a command as the card took it, or a frame refused 3 as it left the card: in SPI something is sent beside the number
+abbrev pub commanded : Card → Outcome → Heard → FrameJudged
+commanded card outcome heard = record { stepped = replied (hearing card heard) outcome (heard .sent); change = heard .change }
+
+-- 1 and 2, which "change nothing"; 3, where the CRC7 counts; then the command. "In its own call a card is alone on the line, so CMD2 wins"; a
+-- card that shares its line is told whether it won. `selected` says that the card's select line is low
+abbrev pub framed : Card → Bool → Bool → Framing → FrameJudged
+framed card wins selected (Unframed refusal) = frameRefused card refusal
+framed card wins selected (Framed index argument right) =
+    unless (crcPasses (card .mode) index right) (commanded card (Refused (by 3)) (damagedOf (card .mode) selected (card .link)))
+    (commanded card Done (heardOf (card .mode) selected (card .link) (metBy card wins) index argument))
 
 -- a frame judged: 12 before all else
-unfoldable pub frameJudged : Card → Bool → List ℕ → Seen → FrameJudged
-frameJudged card wins frame seen =
-    onceLent (lendingOf seen (card .registers .groups)) (frameRefused card) (framed card wins (framingOf frame))
+unfoldable pub frameJudged : Card → Bool → Bool → List ℕ → Seen → FrameJudged
+frameJudged card wins selected frame seen =
+    onceLent (lendingOf seen (card .registers .groups)) (frameRefused card) (framed card wins selected (framingOf frame))
 
 -- whether a command spares a tagged sector, where these are the tags and the card is protected whole or is not
 abbrev pub sparing : Tags → Bool → Seen → Change → Bool
@@ -78,8 +85,8 @@ abbrev pub frameTold : Card → Seen → FrameJudged → Stepped
 frameTold card seen judged = sparedTold (judged .stepped) (spares card seen (judged .change))
 
 -- a frame at a card of this record
-unfoldable pub frameStepped : Card → Bool → List ℕ → Seen → Stepped
-frameStepped card wins frame seen = frameTold card seen (frameJudged card wins frame seen)
+unfoldable pub frameStepped : Card → Bool → Bool → List ℕ → Seen → Stepped
+frameStepped card wins selected frame seen = frameTold card seen (frameJudged card wins selected frame seen)
 
 -- what is lent afterwards: "set, clear the addressed group"; "fills every tagged sector outside protection"
 abbrev pub changed : Tags → Bool → Change → Lent → Lent
@@ -91,10 +98,10 @@ changed tags whole Erase lent = withMemory lent (erased (lent .map) tags whole (
 abbrev pub changedBy : Card → Change → Lent → Lent
 changedBy card change lent = changed (card .link .tags) (csdProtects (card .registers .csd)) change lent
 
--- a command as a card's link takes it: the link that it leaves, with bit 15 where it spared a sector, and what is sent
-unfoldable pub commandHeard : Link → Met → Bool → ℕ → ℕ → Seen → Answered
-commandHeard link met whole index argument seen =
-    record {
-      link = skipTold (commandOf link met index argument .link) (sparing (link .tags) whole seen (commandOf link met index argument .change));
-      sent = commandOf link met index argument .sent;
-    }
+-- a command as a card's mode and link take it: those that it leaves, with bit 15 where it spared a sector, and what is sent
+abbrev pub answeredBy : Link → Bool → Seen → Heard → Answered
+answeredBy link whole seen heard =
+    record { mode = heard .mode; link = skipTold (heard .link) (sparing (link .tags) whole seen (heard .change)); sent = heard .sent }
+
+unfoldable pub commandHeard : Mode → Bool → Link → Met → Bool → ℕ → ℕ → Seen → Answered
+commandHeard mode selected link met whole index argument seen = answeredBy link whole seen (heardOf mode selected link met index argument)

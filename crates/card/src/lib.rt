@@ -13,6 +13,7 @@ use card_blocks::block_out;
 use card_blocks::done;
 use card_record::Card;
 use card_record::Link;
+use card_record::Mode;
 use card_record::Sent;
 pub use frames::frame;
 pub use frames::heard;
@@ -21,16 +22,17 @@ ghost use lib.ListN.{length};
 ghost use Rattle.card.specs.Step.{stepOf, lentAfter, outputOf};
 ghost use Rattle.store.specs.Lent.{lentOf, seen};
 
-// What a command leaves at a card: the link, and what is sent.
+// What a command leaves at a card: mode and link, and what is sent.
 pub struct Answered {
+    pub mode: Mode,
     pub link: Link,
     pub sent: Sent,
 }
 
-// Everything that can happen to a made card. A frame comes with whether the card wins the line in CMD2: one
-// that is alone on it does.
+// Everything that can happen to a made card. A frame comes with whether the card wins the line in CMD2, as one
+// that is alone on it does, and whether the card's select line is low.
 pub enum Call {
-    Frame { wins: bool },
+    Frame { wins: bool, selected: bool },
     BlockIn,
     BlockOut,
     WorkDone,
@@ -51,7 +53,7 @@ pub fn step(
     ensures output { λ _. ⌜ now (out .exit) ≡ outputOf card call (lentOf (now (memory .entry)) (now (map .entry))) (now (out .entry)) ⌝ }
 {
     match call {
-        Call::Frame { wins } => frame(card, wins, input, memory, map),
+        Call::Frame { wins, selected } => frame(card, wins, selected, input, memory, map),
         Call::BlockIn => block_in(card, input, memory, map),
         Call::BlockOut => block_out(card, memory, map, out),
         Call::WorkDone => done(card_record::work_done(card)),

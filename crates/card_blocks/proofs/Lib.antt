@@ -1,2 +1,4 @@
+pub mod Framed
+pub mod Laying
 pub mod Outcomes
 pub mod WrongAnswers

@@ -1,10 +1,10 @@
 -- What can become of a block in and a block out at a card: every kind in one list each, with what is known there. What is to be shown of
 -- every call is then shown by cases on the list.
 --   InOutcome, block-outcome      a block in: not looked at; refused; stored; a lock request granted; a forced erase granted
---   OutOutcome, out-outcome       a block out: not sent; refused with an error bit; sent
+--   OutOutcome, out-outcome       a block out: not sent; refused with an error bit; sent, a part of memory, the protection bits or a register
 --   WritesAt, only                awaited work that is a write from an address on: it is one address
 -- Assumes nothing.
-use mathlib.Core.Path.{_≡_, refl}
+use mathlib.Core.Path.{_≡_, refl, sym, ap}
 use mathlib.Core.Bool.{true, false, not}
 use mathlib.Core.List.{List, [], _∷_}
 use Prim.Native.Nat.{ℕ, _+_, _*_, _/_, _≤_, _<_}
@@ -15,7 +15,6 @@ use lib.ListN.{length}
 use Rattle.base.proofs.Cases.{guarded, clash}
 use Rattle.base.specs.Refusals.{refusalOf, by}
 use Rattle.base.specs.declared.Refusal.{Refusal}
-use Rattle.crc.specs.Crc.{crc16}
 use Rattle.lock.specs.Requests.{requestOf}
 use Rattle.lock.specs.declared.Answer.{Answer}
 use Rattle.lock.specs.declared.Answer.the-variants.{Granted, Erased, Failed}
@@ -26,7 +25,7 @@ use Rattle.card_record.specs.declared.Card.{Card}
 use Rattle.states.specs.declared.Incoming.{Incoming}
 use Rattle.states.specs.declared.Incoming.the-variants.{One, Many, LockRequest}
 use Rattle.states.specs.declared.Outgoing.{Outgoing}
-use Rattle.states.specs.declared.Outgoing.the-variants.{One as OneOut, Many as ManyOut, Protection}
+use Rattle.states.specs.declared.Outgoing.the-variants.{One as OneOut, Many as ManyOut, Protection, Csd as CsdOut, Cid as CidOut}
 use Rattle.states.specs.declared.State.{State}
 use Rattle.states.specs.declared.State.the-variants.{Idle, Ready, Ident, Stby, Tran, Data, Rcv, Prg, Dis, Ina}
 use Rattle.status.specs.ErrorBits.{errorBit}
@@ -36,13 +35,14 @@ use Rattle.store.proofs.OnceLent.{once-lent}
 use Rattle.store.specs.Lent.{Seen, lendingOf}
 use Rattle.store.specs.Map.{protectedIn}
 use Rattle.store.specs.declared.Lending.the-variants.{Right}
-use Rattle.wire.specs.Blocks.{payloadOf, crcIn as toldCrc}
-use Rattle.card_blocks.specs.BlockIn.{beside, awaitedLength, afterStored, blockRefused, blockGood, writeJudged, lockJudged, requestJudged, carriedOut, awaitedJudged, unread, stateJudged, blockJudged}
-use Rattle.card_blocks.specs.BlockOut.{unsent, outRefused, outGood, afterSent, partJudged, protectionJudged, outgoingJudged, stateSends, outJudged}
+use Rattle.wire.specs.Blocks.{payloadOf}
+use Rattle.card_blocks.specs.BlockIn.{awaitedLength, afterStored, blockRefused, blockGood, writeJudged, lockJudged, requestJudged, carriedOut, checkedJudged, awaitedJudged, unread, stateJudged, blockJudged}
+use Rattle.card_blocks.specs.BlockOut.{unsent, outRefused, outGood, afterSent, partJudged, bytesJudged, outgoingJudged, stateSends, outJudged}
+use Rattle.card_blocks.specs.Framing.{beside, started, unstarted, crcRight}
 use Rattle.card_blocks.specs.declared.BlockJudged.{BlockJudged}
 use Rattle.card_blocks.specs.declared.OutJudged.{OutJudged}
 use Rattle.card_blocks.specs.declared.Sending.{Sending}
-use Rattle.card_blocks.specs.declared.Sending.the-variants.{Part, Protection as Bits}
+use Rattle.card_blocks.specs.declared.Sending.the-variants.{Part, Protection as Bits, Csd, Cid}
 use Rattle.card_blocks.specs.declared.Storing.the-variants.{Nothing, Sector, All}
 
 -- awaited work that is a write from an address on
@@ -60,9 +60,9 @@ only (many a) (many b) e = cc
 abbrev pub sectors : Card → ℕ
 sectors card = sizeOf (card .registers .groups) / 512
 
--- the answer to the lock request that a block carries
+-- the answer to the lock request that a block carries, in SPI behind its start byte
 abbrev pub askedOf : Card → List ℕ → Requested
-askedOf card block = requestOf (card .lock) (payloadOf block) (csdProtects (card .registers .csd))
+askedOf card block = requestOf (card .lock) (payloadOf (unstarted (card .mode .spi) block)) (csdProtects (card .registers .csd))
 
 -- ---- the lists
 -- an awaited block is refused: 16, 17, 18, 19, 20
@@ -76,7 +76,7 @@ pub data Refuses (card : Card) (incoming : Incoming) : Refusal → Fault → Typ
 -- a block is stored: 12, 16, 18 and 19 did not stop it
 pub record Storable (card : Card) (block : List ℕ) (seen : Seen) (sector : ℕ) : Type 0 where
   pub lent : lendingOf seen (card .registers .groups) ≡ Right
-  pub long : length block ≡ 514
+  pub long : length block ≡ 512 + beside (card .mode .spi)
   pub in-range : sector < sectors card
   pub free : protectedIn (seen .map) (csdProtects (card .registers .csd)) sector ≡ false
 
@@ -112,7 +112,7 @@ module _ (card : Card) (block : List ℕ) (seen : Seen) where
   request-outcome on Failed e = refuses LockRequest (by 20) (Bit (errorBit 24)) on failed
 
   module _ (lent : lendingOf seen (card .registers .groups) ≡ Right) where
-    write-outcome : (incoming : Incoming) (at : ℕ) → WritesAt incoming at → card .link .state ≡ Rcv incoming → length block ≡ 514
+    write-outcome : (incoming : Incoming) (at : ℕ) → WritesAt incoming at → card .link .state ≡ Rcv incoming → length block ≡ 512 + beside (card .mode .spi)
         → In (writeJudged card incoming (at / 512) (seen .map))
     unfolding writeJudged
     write-outcome incoming at w on long =
@@ -123,20 +123,23 @@ module _ (card : Card) (block : List ℕ) (seen : Seen) where
         (λ u. refuses incoming (by 19) (Bit (errorBit 26)) on protected)
         (λ u. stores incoming at w on (record { lent = lent; long = long; in-range = ltb-true (at / 512) (sectors card) t; free = not-true _ u })))
 
-    carried-outcome : (incoming : Incoming) → card .link .state ≡ Rcv incoming → length block ≡ awaitedLength card incoming + beside
-        → In (carriedOut card incoming (payloadOf block) (seen .map))
+    carried-outcome : (incoming : Incoming) → card .link .state ≡ Rcv incoming → length block ≡ awaitedLength card incoming + beside (card .mode .spi)
+        → In (carriedOut card incoming (payloadOf (unstarted (card .mode .spi) block)) (seen .map))
     unfolding requestJudged
     carried-outcome (One at) on long = write-outcome (One at) at (one at) on long
     carried-outcome (Many at) on long = write-outcome (Many at) at (many at) on long
     carried-outcome LockRequest on long = request-outcome on (askedOf card block .answer) refl
 
     awaited-outcome : (incoming : Incoming) → card .link .state ≡ Rcv incoming → In (awaitedJudged card incoming block (seen .map))
-    unfolding awaitedJudged
+    unfolding awaitedJudged checkedJudged
     awaited-outcome incoming on =
-        guarded In (eqb (length block) (awaitedLength card incoming + beside)) (λ t. refuses incoming (by 16) (Bit (errorBit 29)) on wrong-length)
+        guarded In (eqb (length block) (awaitedLength card incoming + beside (card .mode .spi)))
+        (λ t. refuses incoming (by 16) (Bit (errorBit 29)) on wrong-length)
         (λ t.
-        guarded In (eqb (toldCrc block) (crc16 (payloadOf block))) (λ u. refuses incoming (by 17) None on wrong-crc)
-        (λ u. carried-outcome incoming on (eqb-true (length block) (awaitedLength card incoming + beside) t)))
+        guarded In (started (card .mode .spi) block) (λ u. refuses incoming (by 16) (Bit (errorBit 29)) on wrong-length)
+        (λ u.
+        guarded In (crcRight (card .mode) (unstarted (card .mode .spi) block)) (λ v. refuses incoming (by 17) None on wrong-crc)
+        (λ v. carried-outcome incoming on (eqb-true (length block) (awaitedLength card incoming + beside (card .mode .spi)) t))))
 
     in-state : (state : State) → card .link .state ≡ state → In (stateJudged card state block (seen .map))
     in-state Idle on = unreads 15 refl
@@ -162,19 +165,26 @@ module _ (card : Card) where
   part-outcome : (outgoing : Outgoing) (at n room : ℕ) → card .link .state ≡ Data outgoing → Out (partJudged card outgoing at n room)
   unfolding partJudged
   part-outcome outgoing at n room on =
-      guarded Out (leb (n + beside) room) (λ t. unsends 6 refl)
+      guarded Out (leb (n + beside (card .mode .spi)) room) (λ t. unsends 6 refl)
       (λ t.
       guarded Out (leb (at + n) (sizeOf (card .registers .groups))) (λ u. past outgoing on)
       (λ u.
       guarded Out (not (crosses at n)) (λ v. across outgoing on)
       (λ v. sends outgoing (at + n) n (Part at n) on (leb-true (at + n) (sizeOf (card .registers .groups)) u))))
 
+  bytes-outcome : (outgoing : Outgoing) (n : ℕ) (sending : Sending) (room : ℕ) → card .link .state ≡ Data outgoing → afterSent outgoing 0 ≡ Tran
+      → Out (bytesJudged card n sending room)
+  unfolding bytesJudged
+  bytes-outcome outgoing n sending room on e =
+      guarded Out (leb (n + beside (card .mode .spi)) room) (λ t. unsends 6 refl)
+      (λ t. rw (sym (ap (λ (state : State). outGood card state n sending) e)) (sends outgoing 0 n sending on (omega arith)))
+
   outgoing-outcome : (outgoing : Outgoing) (room : ℕ) → card .link .state ≡ Data outgoing → Out (outgoingJudged card outgoing room)
-  unfolding protectionJudged
   outgoing-outcome (OneOut at) room on = part-outcome (OneOut at) at (lengthRead (card .link .length)) room on
   outgoing-outcome (ManyOut at) room on = part-outcome (ManyOut at) at (lengthRead (card .link .length)) room on
-  outgoing-outcome (Protection group) room on =
-      guarded Out (leb (4 + beside) room) (λ t. unsends 6 refl) (λ t. sends (Protection group) 0 4 (Bits group) on (omega arith))
+  outgoing-outcome (Protection group) room on = bytes-outcome (Protection group) 4 (Bits group) room on refl
+  outgoing-outcome CsdOut room on = bytes-outcome CsdOut 16 Csd room on refl
+  outgoing-outcome CidOut room on = bytes-outcome CidOut 16 Cid room on refl
 
   out-state : (state : State) (room : ℕ) → card .link .state ≡ state → Out (stateSends card state room)
   out-state Idle room on = unsends 15 refl

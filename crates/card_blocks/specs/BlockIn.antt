@@ -1,4 +1,5 @@
--- Document 01, "Reading, writing, erasing, locking": a block in. "Block in: 12, 15, 16, 17, 18, 19 or 20."
+-- Document 01, "Reading, writing, erasing, locking": a block in. "Block in: 12, 15, 16, 17, 18, 19 or 20." Document 02, request 1: the same in
+-- SPI, but for the framing.
 -- Assumes nothing.
 use mathlib.Core.Bool.{not}
 use mathlib.Core.List.{List}
@@ -9,11 +10,14 @@ use Rattle.base.specs.Choice.{unless}
 use Rattle.base.specs.Refusals.{by}
 use Rattle.base.specs.Sizes.{sectorSize}
 use Rattle.base.specs.declared.Refusal.{Refusal}
-use Rattle.card_blocks.specs.Replies.{refused, done}
+use Rattle.card_blocks.specs.Framing.{beside, started, unstarted, crcRight, responseTo}
+use Rattle.card_blocks.specs.Replies.{replied, refused}
 use Rattle.card_blocks.specs.declared.BlockJudged.{BlockJudged}
+use Rattle.card_blocks.specs.declared.Outcome.{Outcome}
+use Rattle.card_blocks.specs.declared.Outcome.the-variants.{Done, Refused}
+use Rattle.card_blocks.specs.declared.Stepped.{Stepped}
 use Rattle.card_blocks.specs.declared.Storing.{Storing}
 use Rattle.card_blocks.specs.declared.Storing.the-variants.{Nothing, Sector, All}
-use Rattle.crc.specs.Crc.{crc16}
 use Rattle.lock.specs.Requests.{requestOf}
 use Rattle.lock.specs.declared.Answer.{Answer}
 use Rattle.lock.specs.declared.Answer.the-variants.{Granted, Erased, Failed}
@@ -32,11 +36,7 @@ use Rattle.status.specs.declared.Fault.the-variants.{None, Bit}
 use Rattle.store.specs.Lent.{Lent, Seen, withMemory, withMap, lendingOf, onceLent}
 use Rattle.store.specs.Map.{protectedIn, mapCleared}
 use Rattle.store.specs.Memory.{sectorWritten, allErased}
-use Rattle.wire.specs.Blocks.{payloadOf, crcIn}
-
--- what a block carries beside its payload: "then CRC16"
-abbrev pub beside : ℕ
-beside = 2
+use Rattle.wire.specs.Blocks.{payloadOf}
 
 -- the payload's length that is awaited: a write's is a sector, and a lock request is "one block of the block length"
 abbrev pub awaitedLength : Card → Incoming → ℕ
@@ -65,18 +65,24 @@ abbrev pub withFault : Errors → Fault → Errors
 withFault errors None = errors
 withFault errors (Bit bit) = withBit errors bit
 
+-- what becomes of a block that was awaited, with the data response that follows it in SPI
+abbrev pub blockReplied : Card → Outcome → Stepped
+blockReplied card outcome = replied card outcome (responseTo (card .mode .spi) outcome)
+
 -- a refused block with the error bit that it sets, if any: "Refused 16, 18 and 19 set bits 29, 31, 26; 17 sets none"; "16 sets bit 29, 20
 -- sets 24". Nothing is stored
 unfoldable pub blockRefused : Card → Incoming → Refusal → Fault → BlockJudged
 blockRefused card incoming refusal fault =
     record {
-      stepped = refused (withLink card (withErrors (withState (card .link) (afterRefused incoming)) (withFault (card .link .errors) fault))) refusal;
+      stepped =
+          blockReplied (withLink card (withErrors (withState (card .link) (afterRefused incoming)) (withFault (card .link .errors) fault)))
+          (Refused refusal);
       storing = Nothing;
     }
 
 -- a good block: the state that it leads to, and what is to be stored
 unfoldable pub blockGood : Card → State → Storing → BlockJudged
-blockGood card state storing = record { stepped = done (withLink card (withState (card .link) state)); storing = storing }
+blockGood card state storing = record { stepped = blockReplied (withLink card (withState (card .link) state)) Done; storing = storing }
 
 -- a write's block: 18, 19, and else "A good block is stored"
 unfoldable pub writeJudged : Card → Incoming → ℕ → List ℕ → BlockJudged
@@ -102,12 +108,20 @@ carriedOut card (One at) payload map = writeJudged card (One at) (sectorAt at) m
 carriedOut card (Many at) payload map = writeJudged card (Many at) (sectorAt at) map
 carriedOut card LockRequest payload map = requestJudged card payload
 
--- 16 and 17 of an awaited block
+-- the block behind its start byte: 17, and else what it does
+unfoldable pub checkedJudged : Card → Incoming → List ℕ → List ℕ → BlockJudged
+checkedJudged card incoming block map =
+    unless (crcRight (card .mode) block) (blockRefused card incoming (by 17) None) (carriedOut card incoming (payloadOf block) map)
+
+abbrev pub wrongLength : Card → Incoming → BlockJudged
+wrongLength card incoming = blockRefused card incoming (by 16) (Bit (errorBit 29))
+
+-- 16 of an awaited block, "start byte FE (another is 16)"
 unfoldable pub awaitedJudged : Card → Incoming → List ℕ → List ℕ → BlockJudged
 awaitedJudged card incoming block map =
-    unless (eqb (length block) (awaitedLength card incoming + beside)) (blockRefused card incoming (by 16) (Bit (errorBit 29)))
-    (unless (eqb (crcIn block) (crc16 (payloadOf block))) (blockRefused card incoming (by 17) None)
-    (carriedOut card incoming (payloadOf block) map))
+    unless (eqb (length block) (awaitedLength card incoming + beside (card .mode .spi))) (wrongLength card incoming)
+    (unless (started (card .mode .spi) block) (wrongLength card incoming)
+    (checkedJudged card incoming (unstarted (card .mode .spi) block) map))
 
 -- a block that is not looked at: the record is as it was
 abbrev pub unread : Card → Refusal → BlockJudged

@@ -1,3 +1,4 @@
 pub mod BlockIn
 pub mod BlockOut
+pub mod Framing
 pub mod Replies

@@ -1,9 +1,14 @@
 // A block in: 12, 15, 16, 17, 18, 19 or 20. A write's block is kept as an array of 512 bytes where it
 // is stored, and nowhere else.
 use crate::BlockJudged;
+use crate::Outcome;
 use crate::Stepped;
 use crate::Storing;
-use crate::replies::done;
+use crate::framing::beside;
+use crate::framing::crc_right;
+use crate::framing::reply;
+use crate::framing::started;
+use crate::framing::unstarted;
 use crate::replies::refuse;
 use base::Refusal;
 use base::SECTOR;
@@ -17,11 +22,11 @@ use status::ErrorBit;
 use status::Errors;
 use status::Fault;
 use store::Lending;
-use wire::Checked;
 ghost use mathlib.Core.Path.{_≡_};
 ghost use Prim.Native.Nat.{_≤_};
 ghost use lib.ListN.{length, take};
-ghost use Rattle.card_blocks.specs.BlockIn.{awaitedLength, afterRefused, afterStored, withFault, blockRefused, blockGood, writeJudged, requestJudged, carriedOut, awaitedJudged, unread, stateJudged, blockJudged, storedBy};
+ghost use Rattle.card_blocks.specs.BlockIn.{awaitedLength, afterRefused, afterStored, withFault, blockRefused, blockGood, writeJudged, requestJudged, carriedOut, checkedJudged, wrongLength, awaitedJudged, unread, stateJudged, blockJudged, storedBy};
+ghost use Rattle.card_blocks.specs.Framing.{unstarted};
 ghost use Rattle.store.specs.Lent.{lentOf, seen};
 
 // The bytes of a sector, as a length.
@@ -93,7 +98,7 @@ fn block_refused(card: Card, incoming: Incoming, refusal: Refusal, fault: Fault)
         ..card
     };
     BlockJudged {
-        stepped: refuse(next, refusal),
+        stepped: reply(next, Outcome::Refused(refusal)),
         storing: Storing::Nothing,
     }
 }
@@ -108,7 +113,7 @@ fn block_good(card: Card, state: State, storing: Storing) -> BlockJudged
         ..card
     };
     BlockJudged {
-        stepped: done(next),
+        stepped: reply(next, Outcome::Done),
         storing,
     }
 }
@@ -178,24 +183,43 @@ fn carried_out(card: Card, incoming: Incoming, payload: &[u8], map: &[u8]) -> Bl
     }
 }
 
-// An awaited block: 16, 17.
+// An awaited block of the right length behind its start byte: 17.
+fn checked_judged(card: Card, incoming: Incoming, block: &[u8], map: &[u8]) -> BlockJudged
+    requires { ⌜ (3 ≤ length (now block)) × (length (now block) ≤ 2050) ⌝ }
+    ensures { λ r. ⌜ r ≡ checkedJudged card incoming (now (block .entry)) (now (map .entry)) ⌝ }
+{
+    if !crc_right(card.mode, block) {
+        return block_refused(card, incoming, Refusal::BlockCrc, Fault::None);
+    }
+    let n = block.len() - 2;
+    carried_out(card, incoming, &block[0..n], map)
+}
+
+// An awaited block: 16.
 fn awaited_judged(card: Card, incoming: Incoming, block: &[u8], map: &[u8]) -> BlockJudged
     ensures { λ r. ⌜ r ≡ awaitedJudged card incoming (now (block .entry)) (now (map .entry)) ⌝ }
 {
+    let spi = card.mode.spi;
     let n = awaited_length(card, incoming);
-    if block.len() != n + 2 {
-        return block_refused(
-            card,
-            incoming,
-            Refusal::BlockLength,
-            Fault::Bit(ErrorBit::BlockLenError),
-        );
+    if block.len() != n + beside(spi) {
+        return wrong_length(card, incoming);
     }
-    let checked = wire::check_block(block);
-    match checked {
-        Checked::Payload(_) => carried_out(card, incoming, &block[0..n], map),
-        Checked::Refused(_) => block_refused(card, incoming, Refusal::BlockCrc, Fault::None),
+    if !started(spi, block) {
+        return wrong_length(card, incoming);
     }
+    let given = unstarted(spi, block);
+    checked_judged(card, incoming, given, map)
+}
+
+fn wrong_length(card: Card, incoming: Incoming) -> BlockJudged
+    ensures { λ r. ⌜ r ≡ wrongLength card incoming ⌝ }
+{
+    block_refused(
+        card,
+        incoming,
+        Refusal::BlockLength,
+        Fault::Bit(ErrorBit::BlockLenError),
+    )
 }
 
 fn unread(card: Card, refusal: Refusal) -> BlockJudged
@@ -248,20 +272,21 @@ fn store(storing: Storing, block: &[u8], memory: &mut [u8], map: &mut [u8])
 // not looked at.
 pub fn taken_in(card: Card, block: &[u8], memory: &mut [u8], map: &mut [u8]) -> Stepped
     ensures answer { λ r. ⌜ r ≡ stateJudged card (card .link .state) (now (block .entry)) (now (map .entry)) .stepped ⌝ }
-    ensures lent { λ _. ⌜ lentOf (now (memory .exit)) (now (map .exit)) ≡ storedBy (now (block .entry)) (stateJudged card (card .link .state) (now (block .entry)) (now (map .entry)) .storing) (lentOf (now (memory .entry)) (now (map .entry))) ⌝ }
+    ensures lent { λ _. ⌜ lentOf (now (memory .exit)) (now (map .exit)) ≡ storedBy (unstarted (card .mode .spi) (now (block .entry))) (stateJudged card (card .link .state) (now (block .entry)) (now (map .entry)) .storing) (lentOf (now (memory .entry)) (now (map .entry))) ⌝ }
 {
     let link = card.link;
     let state = link.state;
     let judged = state_judged(card, state, block, map);
     let storing = judged.storing;
-    store(storing, block, memory, map);
+    let given = unstarted(card.mode.spi, block);
+    store(storing, given, memory, map);
     judged.stepped
 }
 
 // A block in: 12 before all else.
 pub fn block_in(card: Card, block: &[u8], memory: &mut [u8], map: &mut [u8]) -> Stepped
     ensures answer { λ r. ⌜ r ≡ blockJudged card (now (block .entry)) (seen (lentOf (now (memory .entry)) (now (map .entry)))) .stepped ⌝ }
-    ensures lent { λ _. ⌜ lentOf (now (memory .exit)) (now (map .exit)) ≡ storedBy (now (block .entry)) (blockJudged card (now (block .entry)) (seen (lentOf (now (memory .entry)) (now (map .entry)))) .storing) (lentOf (now (memory .entry)) (now (map .entry))) ⌝ }
+    ensures lent { λ _. ⌜ lentOf (now (memory .exit)) (now (map .exit)) ≡ storedBy (unstarted (card .mode .spi) (now (block .entry))) (blockJudged card (now (block .entry)) (seen (lentOf (now (memory .entry)) (now (map .entry)))) .storing) (lentOf (now (memory .entry)) (now (map .entry))) ⌝ }
 {
     let lending = store::lent_check(memory.len(), map, card.registers.groups as usize);
     match lending {

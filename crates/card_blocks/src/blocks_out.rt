@@ -4,19 +4,26 @@ use crate::Outcome;
 use crate::Reply;
 use crate::Sending;
 use crate::Stepped;
+use crate::framing::START;
+use crate::framing::beside;
 use crate::replies::refuse;
 use base::Refusal;
+use base::Written;
 use card_record::Card;
 use card_record::Link;
+use card_record::Registers;
 use card_record::Sent;
 use states::Outgoing;
 use states::State;
 use status::ErrorBit;
 use store::Lending;
+ghost use mathlib.Core.Bool.{false};
 ghost use mathlib.Core.Path.{_≡_};
+ghost use Prim.Native.Nat.{_≤_};
 ghost use lib.ListN.{length};
-ghost use Rattle.card_blocks.specs.BlockOut.{unsent, outRefused, outGood, afterSent, partJudged, protectionJudged, outgoingJudged, stateSends, outJudged, partSent, protectionSent, sentOut};
+ghost use Rattle.card_blocks.specs.BlockOut.{unsent, outRefused, outGood, afterSent, partJudged, bytesJudged, outgoingJudged, stateSends, outJudged, partBlock, protectionBytes, blockFor, sentWhole, blockLaid, sentOut};
 ghost use Rattle.store.specs.Lent.{lentOf, seen};
+ghost use Rattle.wire.specs.Blocks.{blockOf};
 
 fn unsent(card: Card, refusal: Refusal) -> OutJudged
     ensures { λ r. ⌜ r ≡ unsent card refusal ⌝ }
@@ -55,7 +62,7 @@ fn out_good(card: Card, state: State, n: u16, sending: Sending) -> OutJudged
                 ..card
             },
             reply: Reply {
-                outcome: Outcome::Wrote(n as usize + 2),
+                outcome: Outcome::Wrote(n as usize + beside(card.mode.spi)),
                 sent: Sent::Nothing,
             },
         },
@@ -71,6 +78,8 @@ fn after_sent(outgoing: Outgoing, next: u32) -> State
         Outgoing::One(_) => State::Tran,
         Outgoing::Many(_) => State::Data(Outgoing::Many(next)),
         Outgoing::Protection(_) => State::Tran,
+        Outgoing::Csd => State::Tran,
+        Outgoing::Cid => State::Tran,
     }
 }
 
@@ -78,7 +87,7 @@ fn after_sent(outgoing: Outgoing, next: u32) -> State
 fn part_judged(card: Card, outgoing: Outgoing, at: u32, n: u16, room: usize) -> OutJudged
     ensures { λ r. ⌜ r ≡ partJudged card outgoing at n room ⌝ }
 {
-    if room < n as usize + 2 {
+    if room < n as usize + beside(card.mode.spi) {
         return unsent(card, Refusal::OutputShort);
     }
     let size = card_record::size(card.registers.groups);
@@ -96,14 +105,14 @@ fn part_judged(card: Card, outgoing: Outgoing, at: u32, n: u16, room: usize) -> 
     out_good(card, state, n, Sending::Part { at, length: n })
 }
 
-// The protection bits: 6.
-fn protection_judged(card: Card, group: u32, room: usize) -> OutJudged
-    ensures { λ r. ⌜ r ≡ protectionJudged card group room ⌝ }
+// Bytes that no address is judged for, the protection bits or a register: 6.
+fn bytes_judged(card: Card, n: u16, sending: Sending, room: usize) -> OutJudged
+    ensures { λ r. ⌜ r ≡ bytesJudged card n sending room ⌝ }
 {
-    if room < 6 {
+    if room < n as usize + beside(card.mode.spi) {
         return unsent(card, Refusal::OutputShort);
     }
-    out_good(card, State::Tran, 4, Sending::Protection(group))
+    out_good(card, State::Tran, n, sending)
 }
 
 fn outgoing_judged(card: Card, outgoing: Outgoing, room: usize) -> OutJudged
@@ -113,7 +122,9 @@ fn outgoing_judged(card: Card, outgoing: Outgoing, room: usize) -> OutJudged
     match outgoing {
         Outgoing::One(at) => part_judged(card, outgoing, at, n, room),
         Outgoing::Many(at) => part_judged(card, outgoing, at, n, room),
-        Outgoing::Protection(group) => protection_judged(card, group, room),
+        Outgoing::Protection(group) => bytes_judged(card, 4, Sending::Protection(group), room),
+        Outgoing::Csd => bytes_judged(card, 16, Sending::Csd, room),
+        Outgoing::Cid => bytes_judged(card, 16, Sending::Cid, room),
     }
 }
 
@@ -135,68 +146,118 @@ fn state_sends(card: Card, state: State, room: usize) -> OutJudged
     }
 }
 
-// A block of memory at the front of the output, where it lies in memory and fits. It is moved in one
-// go and summed where it then stands: that costs less than copying and summing byte by byte.
-fn send_part(memory: &[u8], at: usize, n: usize, out: &mut [u8])
-    ensures { λ _. ⌜ now (out .exit) ≡ partSent (now (memory .entry)) at n (now (out .entry)) ⌝ }
+// A block of memory at the front of the output, where it lies in memory and fits: whether it does. It
+// is moved in one go and summed where it then stands: that costs less than copying and summing byte by
+// byte.
+fn send_part(memory: &[u8], at: usize, n: usize, out: &mut [u8]) -> bool
+    ensures answer { λ r. ⌜ r ≡ sentWhole (partBlock (now (memory .entry)) at n) (length (now (out .entry))) ⌝ }
+    ensures output { λ _. ⌜ now (out .exit) ≡ blockLaid false (partBlock (now (memory .entry)) at n) (now (out .entry)) ⌝ }
 {
     if out.len() < 2 {
-        return;
+        return false;
     }
     if out.len() - 2 < n {
-        return;
+        return false;
     }
     let inside = store::read_part(memory, at, &mut out[0..n]);
     if !inside {
-        return;
+        return false;
     }
     let sum = crc::crc16(&out[0..n]);
     out[n] = (sum / 256) as u8;
     out[n + 1] = (sum % 256) as u8;
+    true
 }
 
-// The protection bits at the front of the output, where they fit.
-fn send_protection(map: &[u8], group: u32, out: &mut [u8])
-    ensures { λ _. ⌜ now (out .exit) ≡ protectionSent (now (map .entry)) group (now (out .entry)) ⌝ }
+// Bytes as a block at the front of the output, where it fits: whether it does.
+fn send_bytes(bytes: &[u8], out: &mut [u8]) -> bool
+    requires { ⌜ (1 ≤ length (now bytes)) × (length (now bytes) ≤ 2048) ⌝ }
+    ensures answer { λ r. ⌜ r ≡ sentWhole (blockOf (now (bytes .entry))) (length (now (out .entry))) ⌝ }
+    ensures output { λ _. ⌜ now (out .exit) ≡ blockLaid false (blockOf (now (bytes .entry))) (now (out .entry)) ⌝ }
+{
+    let written = wire::write_block(bytes, out);
+    match written {
+        Written::Bytes(_) => true,
+        Written::Refused(_) => false,
+    }
+}
+
+// The protection bits as four bytes, highest first.
+fn protection_bytes(map: &[u8], group: u32) -> [u8; 4]
+    ensures { λ r. ⌜ r ≡ protectionBytes (now (map .entry)) group ⌝ }
 {
     let bits = store::protection_bits(map, group);
-    let four = [
+    [
         (bits / 16777216) as u8,
         (bits / 65536 % 256) as u8,
         (bits / 256 % 256) as u8,
         (bits % 256) as u8,
-    ];
-    wire::write_block(&four, out);
+    ]
 }
 
-// What was judged, at the front of the output.
-fn send(sending: Sending, memory: &[u8], map: &[u8], out: &mut [u8])
-    ensures { λ _. ⌜ now (out .exit) ≡ sentOut (lentOf (now (memory .entry)) (now (map .entry))) sending (now (out .entry)) ⌝ }
+// What was judged, payload and CRC16, at the front of the output: whether anything went out.
+fn send_block(
+    registers: Registers,
+    sending: Sending,
+    memory: &[u8],
+    map: &[u8],
+    out: &mut [u8],
+) -> bool
+    ensures answer { λ r. ⌜ r ≡ sentWhole (blockFor registers (lentOf (now (memory .entry)) (now (map .entry))) sending) (length (now (out .entry))) ⌝ }
+    ensures output { λ _. ⌜ now (out .exit) ≡ blockLaid false (blockFor registers (lentOf (now (memory .entry)) (now (map .entry))) sending) (now (out .entry)) ⌝ }
 {
     match sending {
-        Sending::Nothing => {}
+        Sending::Nothing => false,
         Sending::Part { at, length } => send_part(memory, at as usize, length as usize, out),
-        Sending::Protection(group) => send_protection(map, group, out),
+        Sending::Protection(group) => {
+            let four = protection_bytes(map, group);
+            send_bytes(&four, out)
+        }
+        Sending::Csd => {
+            let csd = registers.csd;
+            send_bytes(&csd, out)
+        }
+        Sending::Cid => {
+            let cid = registers.cid;
+            send_bytes(&cid, out)
+        }
+    }
+}
+
+// What was judged, at the front of the output; in SPI behind its start byte.
+fn send(card: Card, sending: Sending, memory: &[u8], map: &[u8], out: &mut [u8])
+    ensures { λ _. ⌜ now (out .exit) ≡ sentOut card (lentOf (now (memory .entry)) (now (map .entry))) sending (now (out .entry)) ⌝ }
+{
+    let registers = card.registers;
+    if !card.mode.spi {
+        send_block(registers, sending, memory, map, out);
+        return;
+    }
+    if out.len() < 1 {
+        return;
+    }
+    if send_block(registers, sending, memory, map, &mut out[1..]) {
+        out[0] = START;
     }
 }
 
 // A block out at a card that is lent what is its own: judged, and then sent.
 pub fn given_out(card: Card, memory: &[u8], map: &[u8], out: &mut [u8]) -> Stepped
     ensures answer { λ r. ⌜ r ≡ stateSends card (card .link .state) (length (now (out .entry))) .stepped ⌝ }
-    ensures output { λ _. ⌜ now (out .exit) ≡ sentOut (lentOf (now (memory .entry)) (now (map .entry))) (stateSends card (card .link .state) (length (now (out .entry))) .sending) (now (out .entry)) ⌝ }
+    ensures output { λ _. ⌜ now (out .exit) ≡ sentOut card (lentOf (now (memory .entry)) (now (map .entry))) (stateSends card (card .link .state) (length (now (out .entry))) .sending) (now (out .entry)) ⌝ }
 {
     let link = card.link;
     let state = link.state;
     let judged = state_sends(card, state, out.len());
     let sending = judged.sending;
-    send(sending, memory, map, out);
+    send(card, sending, memory, map, out);
     judged.stepped
 }
 
 // A block out: 12 before all else.
 pub fn block_out(card: Card, memory: &[u8], map: &[u8], out: &mut [u8]) -> Stepped
     ensures answer { λ r. ⌜ r ≡ outJudged card (seen (lentOf (now (memory .entry)) (now (map .entry)))) (length (now (out .entry))) .stepped ⌝ }
-    ensures output { λ _. ⌜ now (out .exit) ≡ sentOut (lentOf (now (memory .entry)) (now (map .entry))) (outJudged card (seen (lentOf (now (memory .entry)) (now (map .entry)))) (length (now (out .entry))) .sending) (now (out .entry)) ⌝ }
+    ensures output { λ _. ⌜ now (out .exit) ≡ sentOut card (lentOf (now (memory .entry)) (now (map .entry))) (outJudged card (seen (lentOf (now (memory .entry)) (now (map .entry)))) (length (now (out .entry))) .sending) (now (out .entry)) ⌝ }
 {
     let lending = store::lent_check(memory.len(), map, card.registers.groups as usize);
     match lending {

@@ -7,6 +7,7 @@
 // gives: the definitions name them.
 mod blocks_in;
 mod blocks_out;
+mod framing;
 mod replies;
 
 use base::Refusal;
@@ -52,11 +53,14 @@ pub struct BlockJudged {
     pub storing: Storing,
 }
 
-// What goes out: nothing; bytes of memory from a place on; the protection bits from a group on.
+// What goes out: nothing; bytes of memory from a place on; the protection bits from a group on; a
+// register.
 pub enum Sending {
     Nothing,
     Part { at: u32, length: u16 },
     Protection(u32),
+    Csd,
+    Cid,
 }
 
 // A block out judged: the answer, and what goes out.

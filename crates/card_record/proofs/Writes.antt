@@ -15,11 +15,11 @@ use Rattle.base.specs.declared.Refusal.{Refusal}
 use Rattle.base.specs.declared.Written.{Written}
 use Rattle.base.specs.declared.Written.the-variants.{Bytes, Refused as NotWritten}
 use Rattle.card_record.specs.declared.Sent.{Sent}
-use Rattle.card_record.specs.declared.Sent.the-variants.{Nothing, Status, Cid, Csd, Ocr}
+use Rattle.card_record.specs.declared.Sent.the-variants.{Nothing, Status, Cid, Csd, Ocr, SpiR1, SpiR2, SpiR3, DataResponse}
 use Rattle.card_record.specs.declared.Registers.{Registers}
 use Rattle.wire.specs.Frames.{indexed}
 use Rattle.wire.specs.Responses.{r1Frame, r2Frame, r3Frame}
-use Rattle.card_record.specs.Sending.{sentBytes, sentWritten, Sendable}
+use Rattle.card_record.specs.Sending.{spiR3Bytes, sentBytes, sentWritten, Sendable}
 
 fits-right : (bytes out : List ℕ) → length bytes ≤ 17 → 17 ≤ length out → fits bytes out ≡ Bytes (length bytes)
 fits-right bytes out h k = simp (le-leb (length bytes) (length out) (omega arith))
@@ -50,6 +50,14 @@ r3-right ocr out k =
     let short : length f ≤ 17 = omega arith in
     (fits-right f out short k, short)
 
+spi-r3-right : (first ocr : ℕ) (out : List ℕ) → 17 ≤ length out → Written17 (fits (spiR3Bytes first ocr) out) (spiR3Bytes first ocr)
+unfolding r3Frame
+spi-r3-right first ocr out k =
+    let f : List ℕ = spiR3Bytes first ocr in
+    let n : length f ≡ 5 = refl in
+    let short : length f ≤ 17 = omega arith in
+    (fits-right f out short k, short)
+
 pub written-right : (registers : Registers) (sent : Sent) (out : List ℕ) → Sendable sent → length (registers .cid) ≡ 16 → length (registers .csd) ≡ 16
     → 17 ≤ length out → Written17 (sentWritten registers sent out) (sentBytes registers sent)
 unfolding sentWritten sentBytes
@@ -58,6 +66,12 @@ written-right registers (Status index status) out h cid csd k = r1-right index s
 written-right registers Cid out h cid csd k = r2-right (registers .cid) out cid k
 written-right registers Csd out h cid csd k = r2-right (registers .csd) out csd k
 written-right registers Ocr out h cid csd k = r3-right (registers .ocr) out k
+written-right registers (SpiR1 first) out h cid csd k = let short : length (first ∷ []) ≤ 17 = omega arith in (fits-right (first ∷ []) out short k, short)
+written-right registers (SpiR2 first second) out h cid csd k =
+    let short : length (first ∷ second ∷ []) ≤ 17 = omega arith in (fits-right (first ∷ second ∷ []) out short k, short)
+written-right registers (SpiR3 first) out h cid csd k = spi-r3-right first (registers .ocr) out k
+written-right registers (DataResponse response) out h cid csd k =
+    let short : length (response ∷ []) ≤ 17 = omega arith in (fits-right (response ∷ []) out short k, short)
 
 -- a refusal is no count of bytes
 abbrev Counts : Written → Type 0

@@ -61,6 +61,7 @@ busy s =
       registers = record { cid = zeros; csd = zeros; ocr = 0x00FF8000; groups = 1 };
       lock = holding (7 ∷ 9 ∷ []) false;
       link = record { state = s; address = 7; length = 16; errors = record { bits = 0x00800000 }; tags = record { range = Start Sectors 3 } };
+      mode = record { spi = true; checks = true };
     }
 
 -- a make that is right but for what it is told, with one protection group

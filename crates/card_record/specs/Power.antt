@@ -1,5 +1,6 @@
--- Document 01, "How a card takes a frame": power-on and work done.
+-- Document 01, "How a card takes a frame": power-on and work done. Document 02, request 1: power-on in SPI.
 -- Assumes nothing.
+use mathlib.Core.Bool.{false}
 use Prim.Native.Nat.{ℕ}
 use Rattle.lock.specs.Passwords.{poweredOf}
 use Rattle.states.specs.declared.State.{State}
@@ -9,6 +10,7 @@ use Rattle.tags.specs.Tagging.{noTags}
 use Rattle.card_record.specs.Record.{withState, withLink}
 use Rattle.card_record.specs.declared.Card.{Card}
 use Rattle.card_record.specs.declared.Link.{Link}
+use Rattle.card_record.specs.declared.Mode.{Mode}
 
 -- "block length 512" after a reset: a name of its own, since a sector is 512 bytes for another reason
 abbrev pub defaultLength : ℕ
@@ -18,9 +20,13 @@ defaultLength = 512
 unfoldable pub freshLink : Link
 freshLink = record { state = Idle; address = 1; length = defaultLength; errors = noErrors; tags = noTags }
 
--- "Power-on, from any state: Idle, .., locked exactly if a password is stored"
+-- the mode of a card that was not brought into SPI; CRC checking is for SPI to switch, and is off in MMC mode
+abbrev pub mmcMode : Mode
+mmcMode = record { spi = false; checks = false }
+
+-- "Power-on, from any state: Idle, .., locked exactly if a password is stored"; a card "leaves [SPI] by power-on only"
 unfoldable pub poweredOn : Card → Card
-poweredOn card = record { registers = card .registers; lock = poweredOf (card .lock); link = freshLink }
+poweredOn card = record { registers = card .registers; lock = poweredOf (card .lock); link = freshLink; mode = mmcMode }
 
 -- "Work done takes prg to tran and dis to stby, and changes no other state"
 abbrev pub workedState : State → State

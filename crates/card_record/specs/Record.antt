@@ -14,6 +14,7 @@ use Rattle.tags.specs.declared.Tags.{Tags}
 use Rattle.wire.specs.Blocks.{longestBlock}
 use Rattle.card_record.specs.declared.Card.{Card}
 use Rattle.card_record.specs.declared.Link.{Link}
+use Rattle.card_record.specs.declared.Mode.{Mode}
 
 -- the bytes of a memory of so many protection groups
 abbrev pub sizeOf : ℕ → ℕ
@@ -46,7 +47,10 @@ abbrev pub withTags : Link → Tags → Link
 withTags link t = record { state = link .state; address = link .address; length = link .length; errors = link .errors; tags = t }
 
 abbrev pub withLink : Card → Link → Card
-withLink card l = record { registers = card .registers; lock = card .lock; link = l }
+withLink card l = record { registers = card .registers; lock = card .lock; link = l; mode = card .mode }
 
 abbrev pub withLock : Card → Lock → Card
-withLock card l = record { registers = card .registers; lock = l; link = card .link }
+withLock card l = record { registers = card .registers; lock = l; link = card .link; mode = card .mode }
+
+abbrev pub withMode : Card → Mode → Card
+withMode card m = record { registers = card .registers; lock = card .lock; link = card .link; mode = m }

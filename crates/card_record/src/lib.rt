@@ -2,8 +2,8 @@
 // only the small part that it changes; how a card is made, powered on, and told that its work is
 // done; and what it sends of it. Any value of the record may come in, so no call has a `requires`.
 //
-// Offers: `Registers`, `Link`, `Card`; `size`, `csd_protects`, `read_length`, `crosses`, `fresh`; `power_on`,
-// `work_done`; `Making`, `Made`, `make`, `refused_make`; `Sent`, `write_sent`.
+// Offers: `Registers`, `Link`, `Mode`, `Card`; `size`, `csd_protects`, `read_length`, `crosses`, `fresh`,
+// `mmc_mode`; `power_on`, `work_done`; `Making`, `Made`, `make`, `refused_make`; `Sent`, `write_sent`.
 mod sending;
 
 use base::PROTECTION_GROUP;
@@ -16,7 +16,7 @@ use tags::Tags;
 ghost use mathlib.Core.Path.{_≡_};
 ghost use lib.ListN.{length};
 ghost use Rattle.card_record.specs.Making.{refusedMake, failedMake, passwordMade, madeOf};
-ghost use Rattle.card_record.specs.Power.{freshLink, poweredOn, workedState, worked};
+ghost use Rattle.card_record.specs.Power.{freshLink, mmcMode, poweredOn, workedState, worked};
 ghost use Rattle.card_record.specs.Record.{sizeOf, csdProtects, lengthRead, crosses};
 
 // What a card is made with and keeps: CID, CSD, OCR, and the size of its memory, in protection
@@ -38,10 +38,18 @@ pub struct Link {
     pub tags: Tags,
 }
 
+// How a card is spoken to: in MMC mode or in SPI, and there whether it checks CRCs. In MMC mode it
+// always does, and `checks` is off.
+pub struct Mode {
+    pub spi: bool,
+    pub checks: bool,
+}
+
 pub struct Card {
     pub registers: Registers,
     pub lock: Lock,
     pub link: Link,
+    pub mode: Mode,
 }
 
 // Whether a card was made, or the refusal.
@@ -56,13 +64,18 @@ pub struct Made {
     pub making: Making,
 }
 
-// What a card sends: nothing, R1, R2 with the CID or the CSD, R3.
+// What a card sends: nothing; in MMC mode R1, R2 with the CID or the CSD, R3; in SPI R1, R2, R3 with
+// R1's byte in front of the OCR, and a data response.
 pub enum Sent {
     Nothing,
     Status { index: u8, status: u32 },
     Cid,
     Csd,
     Ocr,
+    SpiR1(u8),
+    SpiR2 { first: u8, second: u8 },
+    SpiR3(u8),
+    DataResponse(u8),
 }
 
 // The sizes of document 01, in the types that they are used in here.
@@ -121,13 +134,24 @@ pub fn fresh() -> Link
     }
 }
 
-// Power-on, from any state: never refused.
+// The mode of a card that was not brought into SPI.
+pub fn mmc_mode() -> Mode
+    ensures answer { λ r. ⌜ r ≡ mmcMode ⌝ }
+{
+    Mode {
+        spi: false,
+        checks: false,
+    }
+}
+
+// Power-on, from any state and out of SPI: never refused.
 pub fn power_on(card: Card) -> Card
     ensures answer { λ r. ⌜ r ≡ poweredOn card ⌝ }
 {
     Card {
         lock: lock::powered(card.lock),
         link: fresh(),
+        mode: mmc_mode(),
         ..card
     }
 }
@@ -184,6 +208,7 @@ pub fn refused_make() -> Card
             errors: status::none(),
             tags: tags::no_tags(),
         },
+        mode: mmc_mode(),
     }
 }
 
@@ -247,6 +272,7 @@ fn with_password(registers: Registers, password: &[u8]) -> Made
                 registers,
                 lock,
                 link: fresh(),
+                mode: mmc_mode(),
             },
             making: Making::Done,
         },

@@ -1,19 +1,22 @@
 -- How long the lines are that these records alone print, at most.
 --   number-line-short   `N WORD K HEX`
 --   card-short          the line of 07
+--   mode-short          the line of 0F
 -- Assumes nothing.
 use mathlib.Core.List.{List, _++_}
 use Prim.Native.Nat.{ℕ, _≤_}
 use native.Mathlib.Omega.{arith}
 use lib.ListN.{length, length-append}
-use Rattle.cardline_looks.specs.Lines.{lineRoom, numberLine}
-use Rattle.cardline_looks.specs.Looks.{twoBytes, fourBytes, linkText, flagsText, cardText}
+use Rattle.cardline_looks.specs.Lines.{lineRoom, roomy, numberLine}
+use Rattle.cardline_looks.specs.Words.{spiWord}
+use Rattle.cardline_looks.specs.Looks.{twoBytes, fourBytes, linkText, flagsText, cardText, modeText}
 use Rattle.card_record.specs.declared.Link.{Link}
+use Rattle.card_record.specs.declared.Mode.{Mode}
 use Rattle.states.specs.States.{columnOf, columnNumber}
 use Rattle.status.specs.Status.{shown as pending, flag}
 use Rattle.status.specs.declared.Errors.{Errors}
 use Rattle.text.proofs.Lengths.{number-short, hexed-long, end-short, head-short}
-use Rattle.text.specs.Lines.{numberText, hexText, endText, headText}
+use Rattle.text.specs.Lines.{lineFeed, numberText, hexText, endText, headText}
 use Rattle.text.specs.Words.{cardWord}
 use mathlib.Core.Bool.{Bool}
 
@@ -57,3 +60,12 @@ card-short count link locked map =
       flags-short locked (link .errors),
       end-short map,
     ))
+
+pub mode-short : (count : ℕ) (mode : Mode) → length (modeText count mode) ≤ roomy
+unfolding modeText
+mode-short count mode =
+    let head = headText count spiWord in
+    let spi = numberText (flag (mode .spi)) in
+    let checks = numberText (flag (mode .checks)) in
+    rw (length-append (head ++ spi ++ checks) lineFeed, length-append (head ++ spi) checks, length-append head spi)
+    (omega (arith, head-short count spiWord, number-short (flag (mode .spi)), number-short (flag (mode .checks))))

@@ -4,6 +4,9 @@ use mathlib.Core.List.{List}
 use Prim.Native.Nat.{ℕ}
 use Rattle.text.specs.Words.{ascii}
 
+abbrev pub spiWord : List ℕ
+spiWord = ascii "spi"
+
 abbrev pub memWord : List ℕ
 memWord = ascii "mem"
 

@@ -1,7 +1,8 @@
-// Kinds 07 to 0A: what is shown and set with no call.
+// Kinds 07 to 0A and 0F: what is shown and set with no call.
 //
 // Offers: `look_line`, `set_map`, `sizes_looked`.
 use card_record::Link;
+use card_record::Mode;
 use cardline_script::Looking;
 use cardline_script::Sizes;
 use status::Errors;
@@ -9,13 +10,14 @@ use text::lines::ending;
 use text::lines::head;
 use text::lines::hexed;
 use text::lines::number;
+use text::lines::put;
 use text::lines::say;
 use text::parts::part;
 ghost use mathlib.Core.Path.{_≡_};
 ghost use lib.ListN.{length};
 ghost use Rattle.status.specs.Status.{flag};
 ghost use Rattle.cardline_looks.specs.Lines.{lineRoom, roomy};
-ghost use Rattle.cardline_looks.specs.Looks.{linkText, flagsText, cardText, memoryText, lookText, poked, mapLooked, sizesLooked};
+ghost use Rattle.cardline_looks.specs.Looks.{linkText, flagsText, cardText, modeText, memoryText, lookText, poked, mapLooked, sizesLooked};
 ghost use Rattle.store.specs.Lent.{lentOf};
 ghost use Rattle.text.specs.Writing.{Put, Line};
 
@@ -60,6 +62,15 @@ fn card_line(count: u64, link: Link, locked: bool, map: &[u8], out: &mut [u8]) -
     ending(map, out, c)
 }
 
+fn mode_line(count: u64, mode: Mode, out: &mut [u8]) -> usize
+    ensures { λ r. ⌜ Line roomy (now (out .entry)) (now (out .exit)) r (modeText count mode) ⌝ }
+{
+    let a = head(count, b"spi", out);
+    let b = number(flag(mode.spi), out, a);
+    let c = number(flag(mode.checks), out, b);
+    put(b"\n", out, c)
+}
+
 fn memory_line(count: u64, from: u32, n: u16, memory: &[u8], out: &mut [u8]) -> usize
     ensures { λ r. ⌜ Line roomy (now (out .entry)) (now (out .exit)) r (memoryText count from n (now (memory .entry))) ⌝ }
 {
@@ -72,16 +83,18 @@ pub fn look_line(
     count: u64,
     own: Sizes,
     link: Link,
+    mode: Mode,
     locked: bool,
     looking: Looking,
     memory: &[u8],
     map: &[u8],
     out: &mut [u8],
 ) -> usize
-    ensures line { λ r. ⌜ Line roomy (now (out .entry)) (now (out .exit)) r (lookText count own link locked looking (lentOf (now (memory .entry)) (now (map .entry)))) ⌝ }
+    ensures line { λ r. ⌜ Line roomy (now (out .entry)) (now (out .exit)) r (lookText count own link mode locked looking (lentOf (now (memory .entry)) (now (map .entry)))) ⌝ }
 {
     match looking {
         Looking::Card => card_line(count, link, locked, part(map, 0, own.map as usize), out),
+        Looking::Mode => mode_line(count, mode, out),
         Looking::Memory { from, length } => {
             memory_line(
                 count,
@@ -113,6 +126,7 @@ pub fn set_map(own: Sizes, looking: Looking, map: &mut [u8])
 {
     match looking {
         Looking::Card => {}
+        Looking::Mode => {}
         Looking::Memory { from: _, length: _ } => {}
         Looking::Lend(_) => {}
         Looking::Poke { entry, value } => poke(own, entry, value, map),
@@ -125,6 +139,7 @@ pub fn sizes_looked(looking: Looking, lent: Sizes) -> Sizes
 {
     match looking {
         Looking::Card => lent,
+        Looking::Mode => lent,
         Looking::Memory { from: _, length: _ } => lent,
         Looking::Lend(sizes) => sizes,
         Looking::Poke { entry: _, value: _ } => lent,

@@ -45,7 +45,7 @@ use Rattle.store.specs.Lent.{Lent}
 
 -- each kind of record has a byte or more
 call-uses : (c : Calling) → 1 ≤ usedBy c
-call-uses (calling.Frame n) = omega arith
+call-uses (calling.Frame n selected) = omega arith
 call-uses (calling.BlockIn n) = omega arith
 call-uses (calling.BlockOut n) = omega arith
 call-uses calling.WorkDone = omega arith
@@ -53,6 +53,7 @@ call-uses calling.PowerOn = omega arith
 
 look-uses : (l : Looking) → 1 ≤ usedLooked l
 look-uses looking.Card = omega arith
+look-uses looking.Mode = omega arith
 look-uses (looking.Memory from n) = omega arith
 look-uses (looking.Lend sizes) = omega arith
 look-uses (looking.Poke entry value) = omega arith

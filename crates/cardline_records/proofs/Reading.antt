@@ -34,7 +34,7 @@ module _ (s t : List ℕ) where
       ap (take n) (drop-append-le at s t (omega arith)) ∙ take-append-le n (drop at s) t (omega arith)
 
   input-stays : (c : Calling) → usedBy c ≤ length s → inputOf c (s ++ t) ≡ inputOf c s
-  input-stays (calling.Frame n) h = part-stays n 2 (omega arith)
+  input-stays (calling.Frame n selected) h = part-stays n 2 (omega arith)
   input-stays (calling.BlockIn n) h = part-stays n 3 (omega arith)
   input-stays (calling.BlockOut n) h = refl
   input-stays calling.WorkDone h = refl

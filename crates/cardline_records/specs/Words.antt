@@ -16,6 +16,9 @@ tooBigWord = ascii "too big"
 abbrev pub takenWord : List ℕ
 takenWord = ascii "taken"
 
+abbrev pub responseWord : List ℕ
+responseWord = ascii "response"
+
 abbrev pub blockWord : List ℕ
 blockWord = ascii "block"
 

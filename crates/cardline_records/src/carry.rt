@@ -87,6 +87,7 @@ fn look_on(
         progress.count,
         progress.own,
         progress.card.link,
+        progress.card.mode,
         progress.card.lock.locked,
         looking,
         memory,

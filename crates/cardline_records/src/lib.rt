@@ -8,6 +8,7 @@
 // `carry_out` has no `requires`.
 //
 // Offers: `Progress`, `fresh`; `Said`, `carry_out`; `cut`.
+mod answers;
 mod calls;
 mod carry;
 mod make;

@@ -14,13 +14,13 @@ use lib.Dec.{eqb, leb, eqb·suc-zero}
 use lib.ListN.{length, length-append, List·getD-append}
 use Rattle.base.proofs.Cases.{cases, never}
 use Rattle.base.specs.Choice.{pick, unless}
-use Rattle.cardline_script.specs.Reading.{byteAt, two, three, four, complete, makingAsked, makeAsked, frameAsked, countedAsked, blockInAsked, blockOutAsked, memoryAsked, lendAsked, pokeAsked, writeFrameAsked, writeBlockAsked, checkAsked, shownAsked, moreAsked, askedOf}
+use Rattle.cardline_script.specs.Reading.{byteAt, two, three, four, complete, makingAsked, makeAsked, frameAsked, countedAsked, blockInAsked, blockOutAsked, memoryAsked, lendAsked, pokeAsked, writeFrameAsked, writeBlockAsked, checkAsked, spiAsked, shownAsked, moreAsked, askedOf}
 use Rattle.cardline_script.specs.Whole.{waits, usedAsked, longestRecord}
 use Rattle.cardline_script.specs.declared.Asked.{Asked}
 use Rattle.cardline_script.specs.declared.Asked.the-variants.{Stop, Go}
 use Rattle.cardline_script.specs.declared.Calling.the-variants.{WorkDone, PowerOn}
 use Rattle.cardline_script.specs.declared.Going.the-variants.{Call, Look}
-use Rattle.cardline_script.specs.declared.Looking.the-variants.{Card}
+use Rattle.cardline_script.specs.declared.Looking.the-variants.{Card, Mode}
 use Rattle.cardline_script.specs.declared.Stop.the-variants.{NoCard, BadKind, TooBig}
 
 -- what a slice's type says of its bytes
@@ -95,9 +95,9 @@ module _ (s t : List ℕ) where
       complete-reads 4 4 _ _ (λ bytes. omega arith) (λ h. refl)
       (λ h. rw (three-stays 1 (omega arith)) (limit-reads 524288 (three s 1) (three s 1) _ _ refl (λ i. making-reads (three s 1))))
 
-  frame-reads : Reads s (frameAsked s) (frameAsked (s ++ t))
+  frame-reads : (selected : Bool) → Reads s (frameAsked s selected) (frameAsked (s ++ t) selected)
   unfolding frameAsked
-  frame-reads =
+  frame-reads selected =
       complete-reads 2 2 _ _ (λ bytes. omega arith) (λ h. refl)
       (λ h.
       rw (byte-stays 1 (omega arith))
@@ -161,21 +161,27 @@ module _ (s t : List ℕ) where
   check-reads =
       counted-reads 0 _ _ (omega arith) (λ h. rw (two-stays 1 (omega arith)) (settled _ refl (omega arith)))
 
-  shown-reads : (kind : ℕ) → Reads s (shownAsked kind s) (shownAsked kind (s ++ t))
-  unfolding shownAsked
-  shown-reads kind =
-      pick-reads (eqb kind 0x08) _ _ _ _ memory-reads
-      (pick-reads (eqb kind 0x09) _ _ _ _ lend-reads
-      (pick-reads (eqb kind 0x0A) _ _ _ _ poke-reads
-      (pick-reads (eqb kind 0x0B) _ _ _ _ write-frame-reads
-      (pick-reads (eqb kind 0x0C) _ _ _ _ write-block-reads
-      (pick-reads (eqb kind 0x0D) _ _ _ _ check-reads (settled (Stop BadKind) refl (omega arith)))))))
-
   module _ (some : 1 ≤ length s) where
+    spi-reads : (kind : ℕ) → Reads s (spiAsked kind s) (spiAsked kind (s ++ t))
+    unfolding spiAsked
+    spi-reads kind =
+        pick-reads (eqb kind 0x0E) _ _ _ _ (frame-reads true)
+        (pick-reads (eqb kind 0x0F) _ _ _ _ (settled (Go (Look Mode)) refl some) (settled (Stop BadKind) refl (omega arith)))
+
+    shown-reads : (kind : ℕ) → Reads s (shownAsked kind s) (shownAsked kind (s ++ t))
+    unfolding shownAsked
+    shown-reads kind =
+        pick-reads (eqb kind 0x08) _ _ _ _ memory-reads
+        (pick-reads (eqb kind 0x09) _ _ _ _ lend-reads
+        (pick-reads (eqb kind 0x0A) _ _ _ _ poke-reads
+        (pick-reads (eqb kind 0x0B) _ _ _ _ write-frame-reads
+        (pick-reads (eqb kind 0x0C) _ _ _ _ write-block-reads
+        (pick-reads (eqb kind 0x0D) _ _ _ _ check-reads (spi-reads kind))))))
+
     more-reads : (kind : ℕ) → Reads s (moreAsked kind s) (moreAsked kind (s ++ t))
     unfolding moreAsked
     more-reads kind =
-        pick-reads (eqb kind 0x02) _ _ _ _ frame-reads
+        pick-reads (eqb kind 0x02) _ _ _ _ (frame-reads false)
         (pick-reads (eqb kind 0x03) _ _ _ _ block-in-reads
         (pick-reads (eqb kind 0x04) _ _ _ _ block-out-reads
         (pick-reads (eqb kind 0x05) _ _ _ _ (settled (Go (Call WorkDone)) refl some)

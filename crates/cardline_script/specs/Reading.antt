@@ -1,7 +1,7 @@
 -- A script: "A record is one byte of kind, then a body", and "All numbers in a script are high byte first". What the record at the front of
 -- a script asks for.
 -- Assumes nothing.
-use mathlib.Core.Bool.{Bool}
+use mathlib.Core.Bool.{Bool, true, false}
 use mathlib.Core.List.{List}
 use Prim.Native.Nat.{ℕ, _+_, _*_}
 use lib.Dec.{eqb, leb}
@@ -11,7 +11,7 @@ use Rattle.cardline_script.specs.declared.Asked.{Asked}
 use Rattle.cardline_script.specs.declared.Asked.the-variants.{More, Stop, Make, Go}
 use Rattle.cardline_script.specs.declared.Calling.the-variants.{Frame, BlockIn, BlockOut, WorkDone, PowerOn}
 use Rattle.cardline_script.specs.declared.Going.the-variants.{Call, Look, Wire}
-use Rattle.cardline_script.specs.declared.Looking.the-variants.{Card, Memory, Lend, Poke}
+use Rattle.cardline_script.specs.declared.Looking.the-variants.{Card, Mode, Memory, Lend, Poke}
 use Rattle.cardline_script.specs.declared.Stop.the-variants.{NoCard, BadKind, TooBig}
 use Rattle.cardline_script.specs.declared.Wiring.the-variants.{Frame as WireFrame, Block, Check}
 
@@ -52,9 +52,9 @@ makingAsked memory s =
 unfoldable pub makeAsked : List ℕ → Asked
 makeAsked s = complete 4 s (sized (three s 1) (makingAsked (three s 1) s))
 
--- | 02 | L (1), L bytes |
-unfoldable pub frameAsked : List ℕ → Asked
-frameAsked s = complete 2 s (complete (byteAt s 1 + 2) s (Go (Call (Frame (byteAt s 1)))))
+-- | 02 | L (1), L bytes |, "with the select line high"; | 0E | the same, "with the select line low"
+unfoldable pub frameAsked : List ℕ → Bool → Asked
+frameAsked s selected = complete 2 s (complete (byteAt s 1 + 2) s (Go (Call (Frame (byteAt s 1) selected))))
 
 -- L (2), L bytes, and so many bytes more
 unfoldable pub countedAsked : List ℕ → ℕ → Asked → Asked
@@ -92,7 +92,11 @@ writeBlockAsked s = countedAsked s 2 (notTooBig (two s (two s 1 + 3)) (Go (Wire 
 abbrev pub checkAsked : List ℕ → Asked
 checkAsked s = countedAsked s 0 (Go (Wire (Check (two s 1))))
 
--- the kinds from 08 on; "A second 01, or any other kind, prints `bad kind` and stops"
+-- the kinds from 0E on; "A second 01, or any other kind, prints `bad kind` and stops"
+unfoldable pub spiAsked : ℕ → List ℕ → Asked
+spiAsked kind s = pick (eqb kind 0x0E) (frameAsked s true) (pick (eqb kind 0x0F) (Go (Look Mode)) (Stop BadKind))
+
+-- the kinds from 08 to 0D
 unfoldable pub shownAsked : ℕ → List ℕ → Asked
 shownAsked kind s =
     pick (eqb kind 0x08) (memoryAsked s)
@@ -100,12 +104,12 @@ shownAsked kind s =
     (pick (eqb kind 0x0A) (pokeAsked s)
     (pick (eqb kind 0x0B) (writeFrameAsked s)
     (pick (eqb kind 0x0C) (writeBlockAsked s)
-    (pick (eqb kind 0x0D) (checkAsked s) (Stop BadKind))))))
+    (pick (eqb kind 0x0D) (checkAsked s) (spiAsked kind s))))))
 
 -- a record after the make
 unfoldable pub moreAsked : ℕ → List ℕ → Asked
 moreAsked kind s =
-    pick (eqb kind 0x02) (frameAsked s)
+    pick (eqb kind 0x02) (frameAsked s false)
     (pick (eqb kind 0x03) (blockInAsked s)
     (pick (eqb kind 0x04) (blockOutAsked s)
     (pick (eqb kind 0x05) (Go (Call WorkDone))

@@ -9,7 +9,7 @@ use Rattle.cardline_script.specs.declared.Calling.the-variants.{Frame, B
 use Rattle.cardline_script.specs.declared.Going.{Going}
 use Rattle.cardline_script.specs.declared.Going.the-variants.{Call, Look, Wire}
 use Rattle.cardline_script.specs.declared.Looking.{Looking}
-use Rattle.cardline_script.specs.declared.Looking.the-variants.{Card, Memory, Lend, Poke}
+use Rattle.cardline_script.specs.declared.Looking.the-variants.{Card, Mode, Memory, Lend, Poke}
 use Rattle.cardline_script.specs.declared.Wiring.{Wiring}
 use Rattle.cardline_script.specs.declared.Wiring.the-variants.{Frame as WireFrame, Block, Check}
 
@@ -22,7 +22,7 @@ waits (asked.Go going) = false
 
 -- how many bytes a record has, its kind among them
 abbrev pub usedBy : Calling → ℕ
-usedBy (Frame n) = n + 2
+usedBy (Frame n selected) = n + 2
 usedBy (BlockIn n) = n + 3
 usedBy (BlockOut n) = 3
 usedBy WorkDone = 1
@@ -30,6 +30,7 @@ usedBy PowerOn = 1
 
 abbrev pub usedLooked : Looking → ℕ
 usedLooked Card = 1
+usedLooked Mode = 1
 usedLooked (Memory from n) = 6
 usedLooked (Lend sizes) = 5
 usedLooked (Poke entry value) = 3

@@ -74,14 +74,18 @@ pub fn make_asked(script: &[u8]) -> Asked
     complete(4, script, right)
 }
 
-pub fn frame_asked(script: &[u8]) -> Asked
-    ensures { λ r. ⌜ r ≡ frameAsked (now (script .entry)) ⌝ }
+// A frame, with the card's select line low (`selected`) or high.
+pub fn frame_asked(script: &[u8], selected: bool) -> Asked
+    ensures { λ r. ⌜ r ≡ frameAsked (now (script .entry)) selected ⌝ }
 {
     let n = byte(script, 1);
     let then = complete(
         n as usize + 2,
         script,
-        Asked::Go(Going::Call(Calling::Frame(n))),
+        Asked::Go(Going::Call(Calling::Frame {
+            length: n,
+            selected,
+        })),
     );
     complete(2, script, then)
 }

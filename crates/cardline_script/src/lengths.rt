@@ -12,7 +12,10 @@ fn used_by(calling: Calling) -> usize
     ensures { λ r. ⌜ r ≡ usedBy calling ⌝ }
 {
     match calling {
-        Calling::Frame(n) => n as usize + 2,
+        Calling::Frame {
+            length,
+            selected: _,
+        } => length as usize + 2,
         Calling::BlockIn(n) => n as usize + 3,
         Calling::BlockOut(_) => 3,
         Calling::WorkDone => 1,
@@ -25,6 +28,7 @@ fn used_looked(looking: Looking) -> usize
 {
     match looking {
         Looking::Card => 1,
+        Looking::Mode => 1,
         Looking::Memory { from: _, length: _ } => 6,
         Looking::Lend(_) => 5,
         Looking::Poke { entry: _, value: _ } => 3,

@@ -20,7 +20,7 @@ pub use lengths::used;
 use numbers::byte;
 use numbers::two;
 ghost use mathlib.Core.Path.{_≡_};
-ghost use Rattle.cardline_script.specs.Reading.{moreAsked, shownAsked, askedOf};
+ghost use Rattle.cardline_script.specs.Reading.{moreAsked, shownAsked, spiAsked, askedOf};
 
 // The bytes of a memory and of a map.
 pub struct Sizes {
@@ -43,18 +43,20 @@ pub struct Making {
     pub password: u8,
 }
 
-// A call of the card: a frame or a block in of so many bytes, a block out into so many.
+// A call of the card: a frame of so many bytes with its select line low or high, a block in of so many,
+// a block out into so many.
 pub enum Calling {
-    Frame(u8),
+    Frame { length: u8, selected: bool },
     BlockIn(u16),
     BlockOut(u16),
     WorkDone,
     PowerOn,
 }
 
-// No call: what is shown of the card, what is lent from now on, and an entry of the map.
+// No call: what is shown of the card and of its mode, what is lent from now on, and an entry of the map.
 pub enum Looking {
     Card,
+    Mode,
     Memory { from: u32, length: u16 },
     Lend(Sizes),
     Poke { entry: u8, value: u8 },
@@ -87,7 +89,7 @@ fn more_asked(kind: u8, script: &[u8]) -> Asked
     ensures { λ r. ⌜ r ≡ moreAsked kind (now (script .entry)) ⌝ }
 {
     if kind == 2 {
-        return frame_asked(script);
+        return frame_asked(script, false);
     }
     if kind == 3 {
         let n = two(script, 1);
@@ -108,7 +110,7 @@ fn more_asked(kind: u8, script: &[u8]) -> Asked
     shown_asked(kind, script)
 }
 
-// The kinds from 08 on.
+// The kinds from 08 to 0D.
 fn shown_asked(kind: u8, script: &[u8]) -> Asked
     ensures { λ r. ⌜ r ≡ shownAsked kind (now (script .entry)) ⌝ }
 {
@@ -130,6 +132,19 @@ fn shown_asked(kind: u8, script: &[u8]) -> Asked
     if kind == 13 {
         let n = two(script, 1);
         return counted_asked(script, 0, Asked::Go(Going::Wire(Wiring::Check(n))));
+    }
+    spi_asked(kind, script)
+}
+
+// The kinds from 0E on.
+fn spi_asked(kind: u8, script: &[u8]) -> Asked
+    ensures { λ r. ⌜ r ≡ spiAsked kind (now (script .entry)) ⌝ }
+{
+    if kind == 14 {
+        return frame_asked(script, true);
+    }
+    if kind == 15 {
+        return Asked::Go(Going::Look(Looking::Mode));
     }
     Asked::Stop(Stop::BadKind)
 }

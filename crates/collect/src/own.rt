@@ -51,7 +51,10 @@ fn call_of(turn: u8) -> Call {
         2 => Call::BlockIn,
         3 => Call::WorkDone,
         5 => Call::BlockOut,
-        _ => Call::Frame { wins: true },
+        _ => Call::Frame {
+            wins: true,
+            selected: false,
+        },
     }
 }
 

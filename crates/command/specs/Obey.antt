@@ -14,7 +14,7 @@ use Rattle.card_record.specs.declared.Link.{Link}
 use Rattle.states.specs.declared.Column.{Column}
 use Rattle.states.specs.declared.Column.the-variants.{Idle as ToIdle, Ready as ToReady, Ident as ToIdent, Stby as ToStby, Tran as ToTran, Data as ToData, Rcv as ToRcv, Prg as ToPrg, Dis as ToDis, Ina as ToIna}
 use Rattle.states.specs.declared.Incoming.the-variants.{One as OneIn, Many as ManyIn, LockRequest}
-use Rattle.states.specs.declared.Outgoing.the-variants.{One as OneOut, Many as ManyOut, Protection}
+use Rattle.states.specs.declared.Outgoing.the-variants.{One as OneOut, Many as ManyOut, Protection, Csd, Cid}
 use Rattle.states.specs.declared.State.{State}
 use Rattle.states.specs.declared.State.the-variants.{Idle, Ready, Ident, Stby, Tran, Data, Rcv, Prg, Dis, Ina}
 use Rattle.status.specs.ErrorBits.{errorBit}
@@ -84,7 +84,8 @@ stateAt ToDis work = Dis
 stateAt ToIna work = Ina
 
 -- what a command begins: CMD17 reads one block, 18 many, 30 the protection bits of the addressed group and those behind it; 24 writes one,
--- 25 many; 42 takes a lock request. Any other command leaves the work as it is
+-- 25 many; 42 takes a lock request. "CMD9 and 10 send the register as a block" where their table leads to data (document 02, request 1).
+-- Any other command leaves the work as it is
 unfoldable pub awaitedBy : ℕ → ℕ → State → State
 awaitedBy index argument state =
     pick (among index (17 ∷ [])) (Data (OneOut argument))
@@ -92,7 +93,8 @@ awaitedBy index argument state =
     (pick (among index (24 ∷ [])) (Rcv (OneIn argument))
     (pick (among index (25 ∷ [])) (Rcv (ManyIn argument))
     (pick (among index (30 ∷ [])) (Data (Protection (argument / protectionGroupSize)))
-    (pick (among index (42 ∷ [])) (Rcv LockRequest) state)))))
+    (pick (among index (42 ∷ [])) (Rcv LockRequest)
+    (pick (among index (9 ∷ [])) (Data Csd) (pick (among index (10 ∷ [])) (Data Cid) state)))))))
 
 -- 3: "address taken"
 abbrev pub addressAfter : ℕ → ℕ → ℕ → ℕ

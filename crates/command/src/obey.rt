@@ -153,6 +153,8 @@ fn awaited_by(index: u8, argument: u32, state: State) -> State
         25 => State::Rcv(Incoming::Many(argument)),
         30 => State::Data(Outgoing::Protection(argument / PROTECTION_GROUP)),
         42 => State::Rcv(Incoming::LockRequest),
+        9 => State::Data(Outgoing::Csd),
+        10 => State::Data(Outgoing::Cid),
         _ => state,
     }
 }

@@ -1,21 +1,22 @@
--- A card's record as C holds it: twelve numbers, and the 16 bytes each of the CID, the CSD and the password. The record that any numbers and
--- bytes stand for, and the numbers of a record, each by its three parts: the link's eight numbers, the lock's two and the registers' two. That
--- nothing is lost between the two is the theorem of proofs/Crossing.antt.
+-- A card's record as C holds it: thirteen numbers, and the 16 bytes each of the CID, the CSD and the password. The record that any numbers
+-- and bytes stand for, and the numbers of a record, each by its four parts: the link's eight numbers, the mode's one, the lock's two and the
+-- registers' two. That nothing is lost between the two is the theorem of proofs/Crossing.antt.
 -- Assumes nothing.
 use mathlib.Core.Bool.{Bool, not}
 use mathlib.Core.List.{List, [], _∷_, _++_}
-use Prim.Native.Nat.{ℕ, _%_, _<_}
+use Prim.Native.Nat.{ℕ, _+_, _*_, _/_, _%_, _<_}
 use lib.Dec.{eqb}
 use lib.ListN.{getD}
 use Rattle.base.specs.Choice.{pick}
 use Rattle.card_record.specs.declared.Card.{Card}
 use Rattle.card_record.specs.declared.Link.{Link}
+use Rattle.card_record.specs.declared.Mode.{Mode}
 use Rattle.card_record.specs.declared.Registers.{Registers}
 use Rattle.lock.specs.declared.Lock.{Lock}
 use Rattle.states.specs.declared.Incoming.{Incoming}
 use Rattle.states.specs.declared.Incoming.the-variants.{One as OneIn, Many as ManyIn, LockRequest}
 use Rattle.states.specs.declared.Outgoing.{Outgoing}
-use Rattle.states.specs.declared.Outgoing.the-variants.{One, Many, Protection}
+use Rattle.states.specs.declared.Outgoing.the-variants.{One, Many, Protection, Csd, Cid}
 use Rattle.states.specs.declared.State.{State}
 use Rattle.states.specs.declared.State.the-variants.{Idle, Ready, Ident, Stby, Tran, Data, Rcv, Prg, Dis, Ina}
 use Rattle.status.specs.Status.{flag}
@@ -27,7 +28,7 @@ use Rattle.tags.specs.declared.Range.the-variants.{Nothing, Start, Full}
 use Rattle.tags.specs.declared.Tags.{Tags}
 
 -- ---- from numbers to a record
--- the state of a number, with the place that it carries; 13 and every number above it is Inactive
+-- the state of a number, with the place that it carries; 13 and every number that is not here is Inactive
 unfoldable pub stateOf : ℕ → ℕ → State
 stateOf number at =
     pick (eqb number 0) Idle
@@ -40,7 +41,9 @@ stateOf number at =
     (pick (eqb number 7) (Data (Protection at))
     (pick (eqb number 8) (Rcv (OneIn at))
     (pick (eqb number 9) (Rcv (ManyIn at))
-    (pick (eqb number 10) (Rcv LockRequest) (pick (eqb number 11) Prg (pick (eqb number 12) Dis Ina))))))))))))
+    (pick (eqb number 10) (Rcv LockRequest)
+    (pick (eqb number 11) Prg
+    (pick (eqb number 12) Dis (pick (eqb number 14) (Data Csd) (pick (eqb number 15) (Data Cid) Ina))))))))))))))
 
 -- the tags of a number and two places; 0 and every number above 4 is none
 unfoldable pub tagsBy : ℕ → ℕ → ℕ → Tags
@@ -52,13 +55,13 @@ tagsBy number first last =
 
 -- the size of the memory, in protection groups
 abbrev pub groupsOf : List ℕ → ℕ
-groupsOf numbers = getD numbers 10 0 % 65536
+groupsOf numbers = getD numbers 11 0 % 65536
 
 -- every number but 0 is locked
 abbrev pub lockedOf : List ℕ → Bool
-lockedOf numbers = not (eqb (getD numbers 8 0) 0)
+lockedOf numbers = not (eqb (getD numbers 9 0) 0)
 
--- the three parts of a record, each of its own numbers: of a number that is wider than its field the low bits count
+-- the four parts of a record, each of its own numbers: of a number that is wider than its field the low bits count
 unfoldable pub linkOf : List ℕ → Link
 linkOf numbers =
     record {
@@ -69,22 +72,28 @@ linkOf numbers =
       tags = tagsBy (getD numbers 5 0) (getD numbers 6 0) (getD numbers 7 0);
     }
 
+-- bit 0 says that the card is in SPI, bit 1 that it checks CRCs there
+unfoldable pub modeOf : List ℕ → Mode
+modeOf numbers = record { spi = eqb (getD numbers 8 0 % 2) 1; checks = eqb (getD numbers 8 0 / 2 % 2) 1 }
+
 unfoldable pub lockOf : List ℕ → List ℕ → Lock
-lockOf numbers password = record { password = password; length = getD numbers 9 0 % 256; locked = lockedOf numbers }
+lockOf numbers password = record { password = password; length = getD numbers 10 0 % 256; locked = lockedOf numbers }
 
 unfoldable pub registersOf : List ℕ → List ℕ → List ℕ → Registers
-registersOf numbers cid csd = record { cid = cid; csd = csd; ocr = getD numbers 11 0; groups = groupsOf numbers }
+registersOf numbers cid csd = record { cid = cid; csd = csd; ocr = getD numbers 12 0; groups = groupsOf numbers }
 
--- the record of twelve numbers, a CID, a CSD and a password
+-- the record of thirteen numbers, a CID, a CSD and a password
 unfoldable pub cardOf : List ℕ → List ℕ → List ℕ → List ℕ → Card
 cardOf numbers cid csd password =
-    record { registers = registersOf numbers cid csd; lock = lockOf numbers password; link = linkOf numbers }
+    record { registers = registersOf numbers cid csd; lock = lockOf numbers password; link = linkOf numbers; mode = modeOf numbers }
 
 -- ---- from a record to numbers
 abbrev pub outgoingNumber : Outgoing → ℕ
 outgoingNumber (One at) = 5
 outgoingNumber (Many at) = 6
 outgoingNumber (Protection group) = 7
+outgoingNumber Csd = 14
+outgoingNumber Cid = 15
 
 abbrev pub incomingNumber : Incoming → ℕ
 incomingNumber (OneIn at) = 8
@@ -108,6 +117,8 @@ abbrev pub outgoingAt : Outgoing → ℕ
 outgoingAt (One at) = at
 outgoingAt (Many at) = at
 outgoingAt (Protection group) = group
+outgoingAt Csd = 0
+outgoingAt Cid = 0
 
 abbrev pub incomingAt : Incoming → ℕ
 incomingAt (OneIn at) = at
@@ -144,11 +155,18 @@ lastOf Nothing = 0
 lastOf (Start kind first) = 0
 lastOf (Full kind first last) = last
 
--- the numbers of each part, eight, two and two
+-- the mode's number, by its two bits
+abbrev pub modeNumber : Mode → ℕ
+modeNumber mode = flag (mode .spi) + 2 * flag (mode .checks)
+
+-- the numbers of each part, eight, one, two and two
 unfoldable pub linkNumbers : Link → List ℕ
 linkNumbers link =
     stateNumber (link .state) ∷ placeCarried (link .state) ∷ link .address ∷ link .length ∷ link .errors .bits ∷ tagsNumber (link .tags .range) ∷
     firstOf (link .tags .range) ∷ lastOf (link .tags .range) ∷ []
+
+unfoldable pub modeNumbers : Mode → List ℕ
+modeNumbers mode = modeNumber mode ∷ []
 
 unfoldable pub lockNumbers : Lock → List ℕ
 lockNumbers lock = flag (lock .locked) ∷ lock .length ∷ []
@@ -156,9 +174,9 @@ lockNumbers lock = flag (lock .locked) ∷ lock .length ∷ []
 unfoldable pub registerNumbers : Registers → List ℕ
 registerNumbers registers = registers .groups ∷ registers .ocr ∷ []
 
--- the twelve numbers of a record, in the order in which mmc.h names them
+-- the thirteen numbers of a record, in the order in which mmc.h names them
 unfoldable pub numbersOf : Card → List ℕ
-numbersOf card = linkNumbers (card .link) ++ lockNumbers (card .lock) ++ registerNumbers (card .registers)
+numbersOf card = linkNumbers (card .link) ++ modeNumbers (card .mode) ++ lockNumbers (card .lock) ++ registerNumbers (card .registers)
 
 -- a record whose numbers are within the widths of their fields, 16 and 8 bits: every value of the type is. The other numbers have the 32 bits
 -- of the numbers that C holds

@@ -4,6 +4,7 @@
 // no card.
 use card_record::Card;
 use card_record::Link;
+use card_record::Mode;
 use card_record::Registers;
 use lock::Lock;
 use states::Incoming;
@@ -14,7 +15,7 @@ use tags::Kind;
 use tags::Range;
 use tags::Tags;
 ghost use mathlib.Core.Path.{_≡_};
-ghost use Rattle.crossing.specs.Record.{stateOf, tagsBy, groupsOf, lockedOf, linkOf, registersOf, cardOf};
+ghost use Rattle.crossing.specs.Record.{stateOf, tagsBy, groupsOf, lockedOf, linkOf, modeOf, registersOf, cardOf};
 
 fn state_of(number: u32, at: u32) -> State
     ensures { λ r. ⌜ r ≡ stateOf number at ⌝ }
@@ -33,6 +34,8 @@ fn state_of(number: u32, at: u32) -> State
         10 => State::Rcv(Incoming::LockRequest),
         11 => State::Prg,
         12 => State::Dis,
+        14 => State::Data(Outgoing::Csd),
+        15 => State::Data(Outgoing::Cid),
         _ => State::Ina,
     }
 }
@@ -51,20 +54,20 @@ fn tags_by(number: u32, first: u32, last: u32) -> Tags
 }
 
 // The size of the memory, in protection groups.
-pub fn groups_of(numbers: [u32; 12]) -> u16
+pub fn groups_of(numbers: [u32; 13]) -> u16
     ensures answer { λ r. ⌜ r ≡ groupsOf numbers ⌝ }
 {
-    (numbers[10] % 65536) as u16
+    (numbers[11] % 65536) as u16
 }
 
-pub fn locked_of(numbers: [u32; 12]) -> bool
+pub fn locked_of(numbers: [u32; 13]) -> bool
     ensures answer { λ r. ⌜ r ≡ lockedOf numbers ⌝ }
 {
-    numbers[8] != 0
+    numbers[9] != 0
 }
 
 // The link of the first eight numbers.
-pub fn link_of(numbers: [u32; 12]) -> Link
+pub fn link_of(numbers: [u32; 13]) -> Link
     ensures answer { λ r. ⌜ r ≡ linkOf numbers ⌝ }
 {
     Link {
@@ -76,28 +79,39 @@ pub fn link_of(numbers: [u32; 12]) -> Link
     }
 }
 
+// The mode of the number behind the link's: bit 0 says SPI, bit 1 that CRCs are checked there.
+pub fn mode_of(numbers: [u32; 13]) -> Mode
+    ensures answer { λ r. ⌜ r ≡ modeOf numbers ⌝ }
+{
+    Mode {
+        spi: numbers[8] % 2 == 1,
+        checks: numbers[8] / 2 % 2 == 1,
+    }
+}
+
 // The registers of the last two, with the bytes of the CID and the CSD.
-pub fn registers_of(numbers: [u32; 12], cid: [u8; 16], csd: [u8; 16]) -> Registers
+pub fn registers_of(numbers: [u32; 13], cid: [u8; 16], csd: [u8; 16]) -> Registers
     ensures answer { λ r. ⌜ r ≡ registersOf numbers cid csd ⌝ }
 {
     Registers {
         cid,
         csd,
-        ocr: numbers[11],
+        ocr: numbers[12],
         groups: groups_of(numbers),
     }
 }
 
-pub fn card_of(numbers: [u32; 12], cid: [u8; 16], csd: [u8; 16], password: [u8; 16]) -> Card
+pub fn card_of(numbers: [u32; 13], cid: [u8; 16], csd: [u8; 16], password: [u8; 16]) -> Card
     ensures answer { λ r. ⌜ r ≡ cardOf numbers cid csd password ⌝ }
 {
     Card {
         registers: registers_of(numbers, cid, csd),
         lock: Lock {
             password,
-            length: (numbers[9] % 256) as u8,
+            length: (numbers[10] % 256) as u8,
             locked: locked_of(numbers),
         },
         link: link_of(numbers),
+        mode: mode_of(numbers),
     }
 }

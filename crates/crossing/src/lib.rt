@@ -1,11 +1,12 @@
 // A card's record as plain numbers and bytes, so that it can cross to C: the kit exports no function
-// that takes a reference to what holds an enum. Twelve numbers, and the 16 bytes each of the CID, the
-// CSD and the password, stand for a record (from_numbers.rt), and any do; a record has its numbers
-// (to_numbers.rt). Eight of them are the link's, two the lock's and two the registers': a part that a
-// call does not change need not be told. Nothing is lost between the two (proofs/Crossing.antt).
+// that takes a reference to what holds an enum. Thirteen numbers, and the 16 bytes each of the CID,
+// the CSD and the password, stand for a record (from_numbers.rt), and any do; a record has its numbers
+// (to_numbers.rt). Eight of them are the link's, one the mode's, two the lock's and two the registers':
+// a part that a call does not change need not be told. Commands change the link and the mode, so
+// these two are told together. Nothing is lost between the two (proofs/Crossing.antt).
 //
-// Offers: `card_of`, `link_of`, `registers_of`, `groups_of`, `locked_of`; `tell_card`, `tell_link`,
-// `tell_link_and_lock`.
+// Offers: `card_of`, `link_of`, `mode_of`, `registers_of`, `groups_of`, `locked_of`; `tell_card`,
+// `tell_link`, `tell_link_and_lock`.
 mod from_numbers;
 mod to_numbers;
 
@@ -13,6 +14,7 @@ pub use from_numbers::card_of;
 pub use from_numbers::groups_of;
 pub use from_numbers::link_of;
 pub use from_numbers::locked_of;
+pub use from_numbers::mode_of;
 pub use from_numbers::registers_of;
 pub use to_numbers::tell_card;
 pub use to_numbers::tell_link;

@@ -1,6 +1,7 @@
 // A record told in numbers.
 use card_record::Card;
 use card_record::Link;
+use card_record::Mode;
 use card_record::Registers;
 use lock::Lock;
 use states::Incoming;
@@ -12,7 +13,7 @@ ghost use mathlib.Core.List.{_++_};
 ghost use mathlib.Core.Path.{_≡_};
 ghost use Prim.Native.Nat.{_≤_};
 ghost use lib.ListN.{length, take, drop};
-ghost use Rattle.crossing.specs.Record.{outgoingNumber, incomingNumber, stateNumber, outgoingAt, incomingAt, placeCarried, startNumber, fullNumber, tagsNumber, lastOf, linkOf, linkNumbers, lockOf, lockNumbers, registerNumbers, cardOf, numbersOf};
+ghost use Rattle.crossing.specs.Record.{outgoingNumber, incomingNumber, stateNumber, outgoingAt, incomingAt, placeCarried, startNumber, fullNumber, tagsNumber, lastOf, modeNumber, linkOf, linkNumbers, modeOf, modeNumbers, lockOf, lockNumbers, registerNumbers, cardOf, numbersOf};
 ghost use Rattle.status.specs.Status.{flag};
 ghost use Rattle.tags.specs.Tagging.{firstOf};
 
@@ -23,6 +24,8 @@ fn outgoing_number(outgoing: Outgoing) -> u32
         Outgoing::One(_) => 5,
         Outgoing::Many(_) => 6,
         Outgoing::Protection(_) => 7,
+        Outgoing::Csd => 14,
+        Outgoing::Cid => 15,
     }
 }
 
@@ -60,6 +63,8 @@ fn outgoing_at(outgoing: Outgoing) -> u32
         Outgoing::One(at) => at,
         Outgoing::Many(at) => at,
         Outgoing::Protection(group) => group,
+        Outgoing::Csd => 0,
+        Outgoing::Cid => 0,
     }
 }
 
@@ -145,6 +150,12 @@ fn flag(is: bool) -> u32
     if is { 1 } else { 0 }
 }
 
+fn mode_number(mode: Mode) -> u32
+    ensures { λ r. ⌜ r ≡ modeNumber mode ⌝ }
+{
+    flag(mode.spi) + 2 * flag(mode.checks)
+}
+
 // The link's numbers at the front of others, and those behind as they were.
 fn put_link(link: Link, numbers: &mut [u32])
     requires { ⌜ 8 ≤ length (now numbers) ⌝ }
@@ -164,51 +175,63 @@ fn put_link(link: Link, numbers: &mut [u32])
     numbers[7] = last_of(range);
 }
 
-// The lock's numbers behind the link's.
-fn put_lock(lock: Lock, numbers: &mut [u32])
-    requires { ⌜ 10 ≤ length (now numbers) ⌝ }
-    ensures { λ _. ⌜ now (numbers .exit) ≡ take 8 (now (numbers .entry)) ++ lockNumbers lock ++ drop 10 (now (numbers .entry)) ⌝ }
+// The mode's number behind the link's.
+fn put_mode(mode: Mode, numbers: &mut [u32])
+    requires { ⌜ 9 ≤ length (now numbers) ⌝ }
+    ensures { λ _. ⌜ now (numbers .exit) ≡ take 8 (now (numbers .entry)) ++ modeNumbers mode ++ drop 9 (now (numbers .entry)) ⌝ }
 {
-    numbers[8] = flag(lock.locked);
-    numbers[9] = lock.length as u32;
+    numbers[8] = mode_number(mode);
+}
+
+// The lock's numbers behind the mode's.
+fn put_lock(lock: Lock, numbers: &mut [u32])
+    requires { ⌜ 11 ≤ length (now numbers) ⌝ }
+    ensures { λ _. ⌜ now (numbers .exit) ≡ take 9 (now (numbers .entry)) ++ lockNumbers lock ++ drop 11 (now (numbers .entry)) ⌝ }
+{
+    numbers[9] = flag(lock.locked);
+    numbers[10] = lock.length as u32;
 }
 
 // The registers' numbers behind the lock's.
 fn put_registers(registers: Registers, numbers: &mut [u32])
-    requires { ⌜ 12 ≤ length (now numbers) ⌝ }
-    ensures { λ _. ⌜ now (numbers .exit) ≡ take 10 (now (numbers .entry)) ++ registerNumbers registers ++ drop 12 (now (numbers .entry)) ⌝ }
+    requires { ⌜ 13 ≤ length (now numbers) ⌝ }
+    ensures { λ _. ⌜ now (numbers .exit) ≡ take 11 (now (numbers .entry)) ++ registerNumbers registers ++ drop 13 (now (numbers .entry)) ⌝ }
 {
-    numbers[10] = registers.groups as u32;
-    numbers[11] = registers.ocr;
+    numbers[11] = registers.groups as u32;
+    numbers[12] = registers.ocr;
 }
 
-// The first eight numbers told of a link, and the other four as they were. They then stand for it:
-// its type says that each number is within the width of its field.
-pub fn tell_link(link: Link, numbers: &mut [u32; 12])
-    ensures numbers { λ _. ⌜ now (numbers .exit) ≡ linkNumbers link ++ drop 8 (now (numbers .entry)) ⌝ }
-    ensures crossing { λ _. ⌜ linkOf (now (numbers .exit)) ≡ link ⌝ }
+// The first nine numbers told of a link and a mode, and the other four as they were. They then stand
+// for the two: its type says of a link that each number is within the width of its field.
+pub fn tell_link(link: Link, mode: Mode, numbers: &mut [u32; 13])
+    ensures numbers { λ _. ⌜ now (numbers .exit) ≡ linkNumbers link ++ modeNumbers mode ++ drop 9 (now (numbers .entry)) ⌝ }
+    ensures crossing { λ _. ⌜ (linkOf (now (numbers .exit)) ≡ link) × (modeOf (now (numbers .exit)) ≡ mode) ⌝ }
 {
     put_link(link, numbers);
+    put_mode(mode, numbers);
 }
 
-// The first ten numbers, told of a link and a lock, and the registers' two as they were.
-pub fn tell_link_and_lock(link: Link, lock: Lock, numbers: &mut [u32; 12])
-    ensures numbers { λ _. ⌜ now (numbers .exit) ≡ linkNumbers link ++ lockNumbers lock ++ drop 10 (now (numbers .entry)) ⌝ }
-    ensures crossing { λ _. ⌜ (linkOf (now (numbers .exit)) ≡ link) × (lockOf (now (numbers .exit)) (lock .password) ≡ lock) ⌝ }
+// The first eleven numbers, told of a link, a mode and a lock, and the registers' two as they were.
+pub fn tell_link_and_lock(link: Link, mode: Mode, lock: Lock, numbers: &mut [u32; 13])
+    ensures numbers { λ _. ⌜ now (numbers .exit) ≡ linkNumbers link ++ modeNumbers mode ++ lockNumbers lock ++ drop 11 (now (numbers .entry)) ⌝ }
+    ensures crossing { λ _. ⌜ (linkOf (now (numbers .exit)) ≡ link) × (modeOf (now (numbers .exit)) ≡ mode) × (lockOf (now (numbers .exit)) (lock .password) ≡ lock) ⌝ }
 {
     put_link(link, numbers);
+    put_mode(mode, numbers);
     put_lock(lock, numbers);
 }
 
-// All twelve numbers, of a record.
-pub fn tell_card(card: Card, numbers: &mut [u32; 12])
+// All thirteen numbers, of a record.
+pub fn tell_card(card: Card, numbers: &mut [u32; 13])
     ensures numbers { λ _. ⌜ now (numbers .exit) ≡ numbersOf card ⌝ }
     ensures crossing { λ _. ⌜ cardOf (now (numbers .exit)) (card .registers .cid) (card .registers .csd) (card .lock .password) ≡ card ⌝ }
 {
     let registers = card.registers;
     let lock = card.lock;
     let link = card.link;
+    let mode = card.mode;
     put_link(link, numbers);
+    put_mode(mode, numbers);
     put_lock(lock, numbers);
     put_registers(registers, numbers);
 }

@@ -1,5 +1,5 @@
 -- What a call answers, and what it makes of the record, depends on what is lent only as far as judging sees it: never on what the memory
--- holds.
+-- holds. In MMC mode and in SPI.
 --   blind    what looks alike gets the same answer and the same next record, and looks alike afterwards
 -- Assumes nothing.
 use mathlib.Core.Path.{_≡_, sym, ap, _∙_}
@@ -7,6 +7,7 @@ use mathlib.Core.List.{List}
 use Prim.Native.Nat.{ℕ}
 use lib.ListN.{length, length-replicate}
 use Rattle.card_blocks.specs.BlockIn.{storedBy, blockJudged}
+use Rattle.card_blocks.specs.Framing.{unstarted}
 use Rattle.card.specs.Frame.{changedBy, frameJudged}
 use Rattle.card.specs.Step.{stepOf, lentAfter}
 use Rattle.card.specs.declared.Call.{Call}
@@ -46,12 +47,13 @@ stored-alike block All lent other same =
 
 after-alike : (card : Card) (call : Call) (input : List ℕ) (lent other : Lent) → seen lent ≡ seen other
     → seen (lentAfter card call input lent) ≡ seen (lentAfter card call input other)
-after-alike card (Frame wins) input lent other same =
-    changed-alike card (frameJudged card wins input (seen lent) .change) lent other same
-    ∙ ap (λ (s : Seen). seen (changedBy card (frameJudged card wins input s .change) other)) same
+after-alike card (Frame wins selected) input lent other same =
+    changed-alike card (frameJudged card wins selected input (seen lent) .change) lent other same
+    ∙ ap (λ (s : Seen). seen (changedBy card (frameJudged card wins selected input s .change) other)) same
 after-alike card BlockIn input lent other same =
-    stored-alike input (blockJudged card input (seen lent) .storing) lent other same
-    ∙ ap (λ (s : Seen). seen (storedBy input (blockJudged card input s .storing) other)) same
+    let block : List ℕ = unstarted (card .mode .spi) input in
+    stored-alike block (blockJudged card input (seen lent) .storing) lent other same
+    ∙ ap (λ (s : Seen). seen (storedBy block (blockJudged card input s .storing) other)) same
 after-alike card BlockOut input lent other same = same
 after-alike card WorkDone input lent other same = same
 after-alike card PowerOn input lent other same = same

@@ -1,5 +1,5 @@
--- Demand 1, answered with an error: a taken command that check 5 or 6 stops answers R1 with the error's bit, stays where it is, leaves no
--- error bit pending and no tags, and changes nothing lent. For every record.
+-- Demand 1, answered with an error in MMC mode: a taken command that check 5 or 6 stops answers R1 with the error's bit, stays where it is,
+-- leaves no error bit pending and no tags, and changes nothing lent. For every record.
 --   bit-shown          a status made with an error bit set shows it
 --   faulted            the theorem
 --   only-passes-lock   of it, check 5: on a locked card a command that is not let through answers with bit 24
@@ -28,6 +28,7 @@ use Rattle.moves.specs.declared.Move.the-variants.{To}
 use Rattle.card_record.specs.Record.{sizeOf, withTags}
 use Rattle.card_record.specs.declared.Card.{Card}
 use Rattle.card_record.specs.declared.Link.{Link}
+use Rattle.spi.specs.Hearing.{heardInMmc}
 use Rattle.states.specs.States.{columnOf}
 use Rattle.states.specs.declared.Column.{Column}
 use Rattle.status.proofs.ErrorTheorems.{set-shows, named-shown}
@@ -44,8 +45,8 @@ use Rattle.tags.specs.Tagging.{noTags, tagFailed}
 use Rattle.tags.specs.declared.Tagging.{Tagging}
 use Rattle.tags.specs.declared.Tags.{Tags}
 use Rattle.demands.specs.Faulted.{fault, Faulted}
-use Rattle.demands.specs.Silenced.{Taken, Reads, Unlent}
-use Rattle.demands.proofs.Frames.{unlent}
+use Rattle.demands.specs.Silenced.{Taken, Reads, InMmc, Unlent}
+use Rattle.demands.proofs.Frames.{heard-in-mmc, unlent-as}
 use Rattle.demands.proofs.Silenced.{by-move}
 
 -- the bit that is set is shown in the status
@@ -127,13 +128,17 @@ pub only-passes-lock : (link : Link) (met : Met) (index argument : ℕ) (column 
 only-passes-lock link met index argument column taken stopped =
     faulted link met index argument column (errorBit 24) taken (lock-fault link met index argument stopped)
 
-module _ (card : Card) (wins : Bool) (frame : List ℕ) (lent : Lent) (out : List ℕ) (index argument : ℕ) (reads : Reads card frame lent index argument)
-    (column : Column) (taken : Taken (card .link) (metBy card wins) index argument column) where
+module _ (card : Card) (wins selected : Bool) (frame : List ℕ) (lent : Lent) (out : List ℕ) (index argument : ℕ) (reads : Reads card frame lent index argument)
+    (m : InMmc card selected index) (column : Column) (taken : Taken (card .link) (metBy card wins) index argument column) where
+  abbrev inMmc : Commanded
+  inMmc = commandOf (card .link) (metBy card wins) index argument
+
   pub faulted-frame : (bit : ErrorBit) → fault (card .link) (metBy card wins) index argument ≡ Bit bit
-      → Unlent card wins frame lent out (commandOf (card .link) (metBy card wins) index argument)
+      → Unlent card wins selected frame lent out (heardInMmc (card .mode) inMmc)
   faulted-frame bit faults =
-      unlent card wins frame lent out index argument reads (faulted (card .link) (metBy card wins) index argument column bit taken faults .change)
+      unlent-as card wins selected frame lent out index argument reads (heardInMmc (card .mode) inMmc)
+      (heard-in-mmc card wins selected index argument m) (faulted (card .link) (metBy card wins) index argument column bit taken faults .change)
 
   pub locked-frame : passesLock (card .lock .locked) index ≡ false
-      → Unlent card wins frame lent out (commandOf (card .link) (metBy card wins) index argument)
+      → Unlent card wins selected frame lent out (heardInMmc (card .mode) inMmc)
   locked-frame stopped = faulted-frame (errorBit 24) (lock-fault (card .link) (metBy card wins) index argument stopped)

@@ -1,7 +1,10 @@
+pub mod AnsweredInSpi
 pub mod Blind
+pub mod BlocksIn
 pub mod Examples
 pub mod Faulted
 pub mod Frames
+pub mod InSpi
 pub mod Inactive
 pub mod Refused
 pub mod RefusedOnBus

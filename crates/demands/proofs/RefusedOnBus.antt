@@ -25,23 +25,25 @@ use Rattle.crc.specs.Crc.{divide, remainder}
 use Rattle.moves.specs.Indices.{among}
 use Rattle.card_record.specs.Making.{refusedMake}
 use Rattle.card_record.specs.declared.Card.{Card}
-use Rattle.states.specs.States.{columnOf, columnNumber}
+use Rattle.spi.proofs.Laws.{isInactive}
 use Rattle.wire.specs.Frames.{crc7Of, field, fieldsOf, framingOf}
 use Rattle.wire.specs.declared.Framing.{Framing}
 use Rattle.wire.specs.declared.Framing.the-variants.{Framed}
-use Rattle.demands.specs.Refused.{namedFrame}
+use Rattle.demands.specs.Refused.{damaged}
 use Rattle.demands.specs.RefusedOnBus.{frameNumbers, addNumbers, namedBus, RefusesFrame, FrameByNumber, RefusesCard, AddByNumber}
 
 -- ---- a frame
--- "3 sets bit 23 .. of every card, unless Inactive"
-damaged-one : (card : Card) → damagedCard card ≡ namedFrame 3 card
+-- "3 sets bit 23 .. of every card, unless Inactive", and of none in SPI
+damaged-one : (card : Card) → damagedCard card ≡ damaged false card
 unfolding damagedLink
 damaged-one card =
-    cases (eqb (columnNumber (columnOf (card .link .state))) 9)
-    (λ (t : eqb (columnNumber (columnOf (card .link .state))) 9 ≡ true). simp t)
-    (λ (t : eqb (columnNumber (columnOf (card .link .state))) 9 ≡ false). simp t)
+    cases (card .mode .spi)
+    (λ (here : card .mode .spi ≡ true). cases (isInactive (card .link))
+    (λ (t : isInactive (card .link) ≡ true). simp (here, t)) (λ (t : isInactive (card .link) ≡ false). simp (here, t)))
+    (λ (here : card .mode .spi ≡ false). cases (isInactive (card .link))
+    (λ (t : isInactive (card .link) ≡ true). simp (here, t)) (λ (t : isInactive (card .link) ≡ false). simp (here, t)))
 
-damaged-each : (cards : List Card) → map damagedCard cards ≡ map (namedFrame 3) cards
+damaged-each : (cards : List Card) → map damagedCard cards ≡ map (damaged false) cards
 damaged-each [] = refl
 damaged-each (card ∷ cards) = ap₂ (λ (c : Card) (l : List Card). c ∷ l) (damaged-one card) (damaged-each cards)
 

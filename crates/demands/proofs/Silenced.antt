@@ -1,5 +1,5 @@
--- Demand 1, silenced: what checks 1, 3 and 4 stop leaves the record as it was, but for bit 22 where document 01 names it, and sends nothing.
--- For every record, and whether or not a card would win the line.
+-- Demand 1, silenced: what checks 1, 3 and 4 stop in MMC mode leaves the record as it was, but for bit 22 where document 01 names it, and
+-- sends nothing. For every record, and whether or not a card would win the line. (AnsweredInSpi has commands in SPI.)
 --   by-move       a command is what its entry of the table makes of it
 --   silenced      every command is taken, or silent and unchanged, or silent with bit 22 in tran, data, rcv or prg: there is nothing else
 --   check-1       in Inactive: silent, unchanged

@@ -1,8 +1,9 @@
 -- Document 01, "Refusal numbers", on a bus: which numbers a frame for all cards gives, and a card that is added, and what alone changes
--- with each. "Nothing changes in the record .. except: 3 sets bit 23 of the card, and on a bus of every card, unless Inactive".
+-- with each. "Nothing changes in the record .. except: 3 sets bit 23 of the card, and on a bus of every card, unless Inactive". Document 02,
+-- request 1: "a frame with the line high is ignored (on a bus it is high)".
 -- Assumes nothing.
 use mathlib.Core.Path.{_≡_}
-use mathlib.Core.Bool.{true}
+use mathlib.Core.Bool.{true, false}
 use mathlib.Core.List.{List, [], _∷_, map}
 use Prim.Native.Nat.{ℕ}
 use lib.Dec.{eqb}
@@ -16,7 +17,7 @@ use Rattle.bus.specs.declared.Bus.{Bus}
 use Rattle.bus.specs.declared.Shown.the-variants.{Refused}
 use Rattle.moves.specs.Indices.{among}
 use Rattle.card_record.specs.declared.Card.{Card}
-use Rattle.demands.specs.Refused.{namedFrame}
+use Rattle.demands.specs.Refused.{damaged}
 
 -- "Frame: 1, 2, 3; .. at a bus 13, 1, 2, 3, 14"; 13: "bus of 0 cards asked, or a 31st added"
 abbrev pub frameNumbers : List ℕ
@@ -25,10 +26,10 @@ frameNumbers = 13 ∷ 1 ∷ 2 ∷ 3 ∷ 14 ∷ []
 abbrev pub addNumbers : List ℕ
 addNumbers = 13 ∷ []
 
--- the bus that document 01 names after a frame that is refused with a number. 3: every card on it is as a card that refuses 3 (bit 23,
--- "unless Inactive"), and a place that is not taken as it was; any other: the bus as it was
+-- the bus that document 01 names after a frame that is refused with a number. 3: every card on it is as a card that refuses 3 with its line
+-- high (bit 23, unless Inactive or in SPI), and a place that is not taken as it was; any other: the bus as it was
 abbrev pub namedBus : ℕ → Bus → Bus
-namedBus number bus = pick (eqb number 3) (withCards bus (map (namedFrame 3) (cardsOf bus))) bus
+namedBus number bus = pick (eqb number 3) (withCards bus (map (damaged false) (cardsOf bus))) bus
 
 module _ (bus : Bus) (frame : List ℕ) where
   -- the frame is refused

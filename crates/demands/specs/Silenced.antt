@@ -1,19 +1,20 @@
--- Document 01, "How a card takes a frame", checks 1, 3 and 4: the commands that a card passes over in silence.
+-- Document 01, "How a card takes a frame", checks 1, 3 and 4: the commands that a card in MMC mode passes over in silence; and whole frames
+-- that change nothing lent, in MMC mode and in SPI.
 -- Assumes nothing.
 use mathlib.Core.Path.{_≡_}
-use mathlib.Core.Bool.{Bool, true, false}
+use mathlib.Core.Bool.{Bool, true, false, _&&_}
 use mathlib.Core.List.{List, [], _∷_}
 use Prim.Native.Nat.{ℕ, _/_}
 use lib.Dec.{eqb}
 use lib.ListN.{length}
 use Rattle.base.specs.Choice.{pick}
 use Rattle.card_blocks.specs.Replies.{replied}
+use Rattle.card.specs.Frame.{hearing}
 use Rattle.card.specs.Step.{stepOf, lentAfter, outputOf}
 use Rattle.card.specs.declared.Call.the-variants.{Frame}
 use Rattle.card_blocks.specs.declared.Outcome.the-variants.{Done}
 use Rattle.command.specs.Answers.{silent}
 use Rattle.command.specs.Command.{receivedOf, commandOf}
-use Rattle.command.specs.declared.Commanded.{Commanded}
 use Rattle.command.specs.declared.Met.{Met}
 use Rattle.moves.specs.Indices.{among}
 use Rattle.moves.specs.Moves.{inState, inRow, legal, unjudged, moveOf}
@@ -21,9 +22,10 @@ use Rattle.moves.specs.Rows.{rowOf}
 use Rattle.moves.specs.declared.Move.the-variants.{To}
 use Rattle.moves.specs.declared.Row.{Row}
 use Rattle.moves.specs.declared.Row.the-variants.{DeselectCard}
-use Rattle.card_record.specs.Record.{withErrors, withLink}
+use Rattle.card_record.specs.Record.{withErrors}
 use Rattle.card_record.specs.declared.Card.{Card}
 use Rattle.card_record.specs.declared.Link.{Link}
+use Rattle.spi.specs.declared.Heard.{Heard}
 use Rattle.states.specs.States.{columnOf, columnNumber}
 use Rattle.states.specs.declared.Column.{Column}
 use Rattle.states.specs.declared.Column.the-variants.{Idle, Ready, Ident, Tran, Data, Rcv, Prg}
@@ -89,13 +91,18 @@ module _ (link : Link) (met : Met) (index argument : ℕ) where
     pub selects : inRow row (DeselectCard ∷ []) ≡ false
     pub stuck : noneFrom (columnOf (link .state)) (legal row) ≡ true
 
--- a frame that is no refusal: "Frame: 1, 2, 3; at a card 12 comes first"
+-- a frame that is no refusal in either mode: "Frame: 1, 2, 3; at a card 12 comes first". (`crc-unread` has those of which SPI reads no CRC7)
 pub record Reads (card : Card) (frame : List ℕ) (lent : Lent) (index argument : ℕ) : Type 0 where
   pub right : lendingOf (seen lent) (card .registers .groups) ≡ Right
   pub command : frameOf frame ≡ Command index argument
 
+-- a card takes a command as document 01 has it: in MMC mode, and not where "CMD0 comes with its select line low"
+pub record InMmc (card : Card) (selected : Bool) (index : ℕ) : Type 0 where
+  pub mmc : card .mode .spi ≡ false
+  pub enters-not : (selected && eqb index 0) ≡ false
+
 -- a frame whose command leaves this, and that changes no lent byte
-pub record Unlent (card : Card) (wins : Bool) (frame : List ℕ) (lent : Lent) (out : List ℕ) (given : Commanded) : Type 0 where
-  pub step : stepOf card (Frame wins) frame (seen lent) (length out) ≡ replied (withLink card (given .link)) Done (given .sent)
-  pub lent-kept : lentAfter card (Frame wins) frame lent ≡ lent
-  pub output-kept : outputOf card (Frame wins) lent out ≡ out
+pub record Unlent (card : Card) (wins selected : Bool) (frame : List ℕ) (lent : Lent) (out : List ℕ) (heard : Heard) : Type 0 where
+  pub step : stepOf card (Frame wins selected) frame (seen lent) (length out) ≡ replied (hearing card heard) Done (heard .sent)
+  pub lent-kept : lentAfter card (Frame wins selected) frame lent ≡ lent
+  pub output-kept : outputOf card (Frame wins selected) lent out ≡ out

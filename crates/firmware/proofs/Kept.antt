@@ -20,9 +20,9 @@ use Rattle.card_blocks.specs.declared.BlockJudged.{BlockJudged}
 use Rattle.card_blocks.specs.declared.OutJudged.{OutJudged}
 use Rattle.card_blocks.specs.declared.Stepped.{Stepped}
 use Rattle.card_record.specs.Power.{poweredOn, workedState, worked}
-use Rattle.card_record.specs.Record.{withLink, withLock}
+use Rattle.card_record.specs.Record.{withLink, withLock, withMode}
 use Rattle.card_record.specs.declared.Card.{Card}
-use Rattle.crossing.specs.Record.{stateOf, linkOf, lockOf, registersOf, cardOf}
+use Rattle.crossing.specs.Record.{stateOf, linkOf, modeOf, lockOf, registersOf, cardOf}
 use Rattle.lock.specs.Passwords.{poweredOf}
 use Rattle.states.specs.declared.State.{State}
 use Rattle.store.specs.Lent.{Seen}
@@ -35,7 +35,7 @@ module _ (card : Card) where
 
   -- ---- a block in: the registers are as they were
   abbrev pub InKept : Card → Type 0
-  InKept next = next ≡ withLink (withLock card (next .lock)) (next .link)
+  InKept next = next ≡ withMode (withLink (withLock card (next .lock)) (next .link)) (next .mode)
 
   module _ (block : List ℕ) (of : Seen) where
     in-parts : {judged : BlockJudged} → InOutcome card block of judged → InKept (judged .stepped .card)
@@ -66,7 +66,7 @@ module _ (card : Card) where
 
   -- ---- a block out: the registers and the lock are as they were
   abbrev pub OutKept : Card → Type 0
-  OutKept next = next ≡ withLink card (next .link)
+  OutKept next = next ≡ withMode (withLink card (next .link)) (next .mode)
 
   module _ (of : Seen) (room : ℕ) where
     out-parts : {judged : OutJudged} → OutOutcome card judged → OutKept (judged .stepped .card)
@@ -90,7 +90,8 @@ module _ (card : Card) where
     out-stays = out-left (out-outcome card of room)
 
 -- ---- power-on: the registers and the password are as they were
-pub powered-parts : (card : Card) → withLink (withLock card (poweredOn card .lock)) (poweredOn card .link) ≡ poweredOn card
+pub powered-parts : (card : Card)
+    → withMode (withLink (withLock card (poweredOn card .lock)) (poweredOn card .link)) (poweredOn card .mode) ≡ poweredOn card
 unfolding poweredOn
 powered-parts card = refl
 
@@ -128,7 +129,9 @@ rests number at not-prg not-dis =
     picked Rests (eqb number 10) (λ t. refl)
     (λ t.
     picked Rests (eqb number 11) (λ t. opposite (eqb number 11) t not-prg)
-    (λ t. picked Rests (eqb number 12) (λ t. opposite (eqb number 12) t not-dis) (λ t. refl)))))))))))))
+    (λ t.
+    picked Rests (eqb number 12) (λ t. opposite (eqb number 12) t not-dis)
+    (λ t. picked Rests (eqb number 14) (λ t. refl) (λ t. picked Rests (eqb number 15) (λ t. refl) (λ t. refl)))))))))))))))
 
 at-prg : (at : ℕ) → stateOf 4 at ≡ workedState (stateOf 11 at)
 unfolding stateOf
@@ -149,6 +152,6 @@ worked-state number at =
 
 pub worked-told : (numbers cid csd password : List ℕ)
     → cardOf (set numbers 0 (workedNumber (getD numbers 0 0))) cid csd password ≡ worked (cardOf numbers cid csd password)
-unfolding worked cardOf linkOf lockOf registersOf stateOf
+unfolding worked cardOf linkOf modeOf lockOf registersOf stateOf
 worked-told [] cid csd password = refl
 worked-told (number ∷ rest) cid csd password = simp (worked-state number (getD rest 0 0))

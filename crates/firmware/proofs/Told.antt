@@ -1,8 +1,8 @@
--- The twelve numbers after a call that tells some of them.
---   link-front, lock-front    those of the link, or of the link and the lock, at the front and the others as they were
+-- The thirteen numbers after a call that tells some of them.
+--   link-front, lock-front    those of the link and the mode, or of these and the lock, at the front and the others as they were
 --   after-left, after-told    where the call's number leaves the record, and where it does not
---   linked, registers-kept    numbers of which the link's are told stand for the card with that link, and so for the same registers
---   powered                   power-on tells those of the link and the lock
+--   linked, registers-kept    numbers of which the link's and the mode's are told stand for the card with these, and so for the same registers
+--   powered                   power-on tells those of the link, the mode and the lock
 --   works, rests-told         work done alters the state's in prg and dis, and leaves it in every other state
 -- Assumes nothing.
 use mathlib.Core.Path.{_≡_, sym, ap, _∙_}
@@ -14,27 +14,32 @@ use lib.ListN.{drop, getD, set}
 use lib.Seq.{getD-drop, set-getD}
 use Rattle.base.specs.Choice.{pick}
 use Rattle.card_record.specs.Power.{poweredOn, worked}
-use Rattle.card_record.specs.Record.{withLink, withLock}
+use Rattle.card_record.specs.Record.{withLink, withLock, withMode}
 use Rattle.card_record.specs.declared.Card.{Card}
 use Rattle.card_record.specs.declared.Link.{Link}
-use Rattle.crossing.proofs.Crossing.{eight, ten, link-told, link-and-lock-told}
-use Rattle.crossing.specs.Record.{linkOf, lockOf, registersOf, cardOf, linkNumbers, lockNumbers}
+use Rattle.card_record.specs.declared.Mode.{Mode}
+use Rattle.crossing.proofs.Crossing.{nine, eleven, link-told, link-and-lock-told}
+use Rattle.crossing.specs.Record.{linkOf, modeOf, lockOf, registersOf, cardOf, linkNumbers, modeNumbers, lockNumbers}
 use Rattle.lock.specs.declared.Lock.{Lock}
 use Rattle.firmware.specs.Answers.{leavesRecord, numbersAfter, fronted, workedNumber}
 use Rattle.firmware.proofs.Kept.{powered-password, powered-parts, worked-told}
 
--- the registers that numbers stand for are the same where the link's are told
-pub registers-kept : (link : Link) (numbers cid csd : List ℕ) → registersOf (linkNumbers link ++ drop 8 numbers) cid csd ≡ registersOf numbers cid csd
-unfolding registersOf linkNumbers
-registers-kept link numbers cid csd = simp (getD-drop 8 numbers 2 0, getD-drop 8 numbers 3 0)
+-- the registers that numbers stand for are the same where the link's and the mode's are told
+pub registers-kept : (link : Link) (mode : Mode) (numbers cid csd : List ℕ)
+    → registersOf (linkNumbers link ++ modeNumbers mode ++ drop 9 numbers) cid csd ≡ registersOf numbers cid csd
+unfolding registersOf linkNumbers modeNumbers
+registers-kept link mode numbers cid csd = simp (getD-drop 9 numbers 2 0, getD-drop 9 numbers 3 0)
 
 -- numbers that are told at the front, and the others as they were
-pub link-front : (link : Link) (numbers : List ℕ) → linkNumbers link ++ drop 8 numbers ≡ fronted (linkNumbers link) numbers
-link-front link numbers = ap (λ (n : ℕ). linkNumbers link ++ drop n numbers) (sym (eight link))
+pub link-front : (link : Link) (mode : Mode) (numbers : List ℕ)
+    → linkNumbers link ++ modeNumbers mode ++ drop 9 numbers ≡ fronted (linkNumbers link ++ modeNumbers mode) numbers
+link-front link mode numbers = ap (λ (n : ℕ). linkNumbers link ++ modeNumbers mode ++ drop n numbers) (sym (nine link mode))
 
-pub lock-front : (link : Link) (lock : Lock) (numbers : List ℕ)
-    → linkNumbers link ++ lockNumbers lock ++ drop 10 numbers ≡ fronted (linkNumbers link ++ lockNumbers lock) numbers
-lock-front link lock numbers = ap (λ (n : ℕ). linkNumbers link ++ lockNumbers lock ++ drop n numbers) (sym (ten link lock))
+pub lock-front : (link : Link) (mode : Mode) (lock : Lock) (numbers : List ℕ)
+    → linkNumbers link ++ modeNumbers mode ++ lockNumbers lock ++ drop 11 numbers
+    ≡ fronted (linkNumbers link ++ modeNumbers mode ++ lockNumbers lock) numbers
+lock-front link mode lock numbers =
+    ap (λ (n : ℕ). linkNumbers link ++ modeNumbers mode ++ lockNumbers lock ++ drop n numbers) (sym (eleven link mode lock))
 
 pub after-left : (number : ℕ) (told before : List ℕ) → leavesRecord number ≡ true → before ≡ numbersAfter number told before
 after-left number told before leaves = sym (ap (λ (b : Bool). pick b before (fronted told before)) leaves)
@@ -46,30 +51,32 @@ module _ (numbers cid csd password : List ℕ) where
   abbrev card : Card
   card = cardOf numbers cid csd password
 
-  -- numbers of which the link's are told stand for the card with that link
-  pub linked : (link : Link) (after : List ℕ) → after ≡ linkNumbers link ++ drop 8 numbers → linkOf after ≡ link
-      → (after ≡ fronted (linkNumbers link) numbers) × (cardOf after cid csd password ≡ withLink card link)
-  linked link after told stands = (
-    told ∙ link-front link numbers,
-    ap (λ (l : List ℕ). cardOf l cid csd password) told ∙ link-told link numbers cid csd password (sym (ap linkOf told) ∙ stands),
+  -- numbers of which the link's and the mode's are told stand for the card with these
+  pub linked : (link : Link) (mode : Mode) (after : List ℕ) → after ≡ linkNumbers link ++ modeNumbers mode ++ drop 9 numbers
+      → (linkOf after ≡ link) × (modeOf after ≡ mode)
+      → (after ≡ fronted (linkNumbers link ++ modeNumbers mode) numbers) × (cardOf after cid csd password ≡ withMode (withLink card link) mode)
+  linked link mode after told stands = (
+    told ∙ link-front link mode numbers,
+    ap (λ (l : List ℕ). cardOf l cid csd password) told
+        ∙ link-told link mode numbers cid csd password (sym (ap linkOf told) ∙ stands .0) (sym (ap modeOf told) ∙ stands .1),
   )
 
   -- ---- power-on and work done
   pub powered : (next : Card) (after : List ℕ) → next ≡ poweredOn card
-      → after ≡ linkNumbers (next .link) ++ lockNumbers (next .lock) ++ drop 10 numbers → linkOf after ≡ next .link
-      → lockOf after (next .lock .password) ≡ next .lock
-      → (after ≡ fronted (linkNumbers (poweredOn card .link) ++ lockNumbers (poweredOn card .lock)) numbers)
+      → after ≡ linkNumbers (next .link) ++ modeNumbers (next .mode) ++ lockNumbers (next .lock) ++ drop 11 numbers
+      → (linkOf after ≡ next .link) × (modeOf after ≡ next .mode) × (lockOf after (next .lock .password) ≡ next .lock)
+      → (after ≡ fronted (linkNumbers (poweredOn card .link) ++ modeNumbers (poweredOn card .mode) ++ lockNumbers (poweredOn card .lock)) numbers)
       × (cardOf after cid csd password ≡ poweredOn card)
-  powered next after same told link-stands lock-stands =
+  powered next after same told each =
       let kept : password ≡ next .lock .password = sym (ap (λ (c : Card). c .lock .password) same ∙ powered-password numbers cid csd password) in
-      let stands : cardOf after cid csd password ≡ withLink (withLock card (next .lock)) (next .link) =
+      let stands : cardOf after cid csd password ≡ withMode (withLink (withLock card (next .lock)) (next .link)) (next .mode) =
       ap (cardOf after cid csd) kept ∙ ap (λ (l : List ℕ). cardOf l cid csd (next .lock .password)) told
-      ∙ link-and-lock-told (next .link) (next .lock) numbers cid csd password (sym (ap linkOf told) ∙ link-stands)
-      (sym (ap (λ (l : List ℕ). lockOf l (next .lock .password)) told) ∙ lock-stands)
+      ∙ link-and-lock-told (next .link) (next .mode) (next .lock) numbers cid csd password (sym (ap linkOf told) ∙ each .0)
+      (sym (ap modeOf told) ∙ each .1) (sym (ap (λ (l : List ℕ). lockOf l (next .lock .password)) told) ∙ each .2)
       in (
-        told ∙ lock-front (next .link) (next .lock) numbers
-            ∙ ap (λ (c : Card). fronted (linkNumbers (c .link) ++ lockNumbers (c .lock)) numbers) same,
-        stands ∙ ap (λ (c : Card). withLink (withLock card (c .lock)) (c .link)) same ∙ powered-parts card,
+        told ∙ lock-front (next .link) (next .mode) (next .lock) numbers
+            ∙ ap (λ (c : Card). fronted (linkNumbers (c .link) ++ modeNumbers (c .mode) ++ lockNumbers (c .lock)) numbers) same,
+        stands ∙ ap (λ (c : Card). withMode (withLink (withLock card (c .lock)) (c .link)) (c .mode)) same ∙ powered-parts card,
       )
 
   -- the state's number is this one, where work done looks at it

@@ -22,33 +22,45 @@
 --   refused-rewritten      numbers of no record rewritten by a call that is refused and changes nothing
 --   damage-not-told        the numbers left as they were by a damaged frame, which sets bit 23
 --   lock-rewritten         a flag of 2 rewritten by a frame, which changes no lock
+--   power-keeps-spi        power-on that leaves the number of SPI
+--   low-by-256             a select line that is low read as high, by the low bits of what C says
+--   high-by-0              one that is high read as low
+--   spi-untold             the number of MMC mode left by a CMD0 that enters SPI
+--   damage-unanswered      no byte told of the R1 beside number 3
+--   response-untold        no byte told of a data response
+--   response-for-length    a byte told of a block that is refused 16
 -- Assumes nothing.
 use mathlib.Core.Path.{_≡_, sym, ap}
 use mathlib.Core.Bool.{true, false}
 use mathlib.Core.List.{List, [], _∷_, _++_}
 use Prim.Native.Nat.{ℕ}
 use native.Mathlib.Omega.{arith}
-use lib.ListN.{getD, replicate}
+use lib.ListN.{length, getD, replicate}
 use Rattle.base.proofs.Cases.{never}
 use Rattle.base.specs.Refusals.{by}
 use Rattle.base.specs.declared.Written.the-variants.{Bytes, Refused as NotWritten}
-use Rattle.card_blocks.specs.BlockIn.{blockGood, requestJudged, awaitedJudged, blockJudged}
-use Rattle.card_blocks.specs.BlockOut.{outGood, protectionJudged, outJudged}
+use Rattle.card_blocks.specs.BlockIn.{blockGood, requestJudged, checkedJudged, awaitedJudged, blockJudged}
+use Rattle.card_blocks.specs.BlockOut.{outGood, bytesJudged, outJudged}
+use Rattle.card_blocks.specs.Framing.{responseTo}
 use Rattle.card_blocks.specs.declared.Outcome.the-variants.{Wrote, Refused as Unsent}
 use Rattle.command.specs.Command.{damagedLink}
 use Rattle.crc.specs.Bits.{bits}
 use Rattle.crc.specs.Crc.{divide, remainder, checkSum, crc7, crc16}
-use Rattle.crossing.specs.Record.{stateOf, linkOf, lockOf, registersOf, cardOf, linkNumbers, lockNumbers}
+use Rattle.crossing.specs.Record.{stateOf, linkOf, modeOf, lockOf, registersOf, cardOf, linkNumbers, modeNumbers, lockNumbers}
 use Rattle.lock.specs.Passwords.{stored, same, holding}
 use Rattle.lock.specs.Requests.{passwordIn, oldOf, newOf, settable, requestOf}
-use Rattle.card_record.specs.Power.{freshLink, poweredOn}
+use Rattle.card_record.specs.Power.{freshLink, mmcMode, poweredOn}
 use Rattle.card_record.specs.declared.Card.{Card}
+use Rattle.spi.specs.Answers.{answeredIn, faulted}
+use Rattle.spi.specs.Hearing.{takenIn, spiHeard, heardOf, damagedOf}
+use Rattle.spi.specs.declared.Heard.{Heard}
+use Rattle.spi_moves.specs.Moves.{rowOf, moveOf}
 use Rattle.store.specs.Lent.{seenOf}
 use Rattle.store.specs.Map.{entriesRight}
 use Rattle.wire.specs.Blocks.{blockOf}
 use Rattle.wire.specs.declared.Checked.the-variants.{Refused as NotChecked}
 use Rattle.wire.specs.declared.Frame.the-variants.{Command, Refused}
-use Rattle.firmware.specs.Answers.{outcomeNumber, fronted, numbersAfter, workedNumber, wonBy, wroteOf}
+use Rattle.firmware.specs.Answers.{outcomeNumber, metAt, byteSent, fronted, numbersAfter, workedNumber, wonBy, selectedBy, wroteOf}
 use Rattle.firmware.specs.Numbers.{writtenNumber, checkedNumber, indexRead, argumentRead}
 
 index-not-told : indexRead (Command 17 0x12345) 0 ≡ 0 → ⊥
@@ -83,16 +95,18 @@ unfolding crc16 checkSum remainder divide bits
 sum-low-first e = omega arith
 
 -- ---- a card
--- the card of one protection group whose first number, its state, is this one, with a start of sectors among its tags
+-- the card of one protection group, in SPI, whose first number, its state, is this one, with a start of sectors among its tags
 abbrev numbered : ℕ → ℕ → List ℕ
-numbered state at = state ∷ at ∷ 7 ∷ 16 ∷ 0 ∷ 1 ∷ 3 ∷ 0 ∷ 0 ∷ 0 ∷ 1 ∷ 0 ∷ []
+numbered state at = state ∷ at ∷ 7 ∷ 16 ∷ 0 ∷ 1 ∷ 3 ∷ 0 ∷ 1 ∷ 0 ∷ 0 ∷ 1 ∷ 0 ∷ []
 
 abbrev card : ℕ → Card
 card state = cardOf (numbered state 0) (replicate 16 0) (replicate 16 0) (replicate 16 0)
 
 -- what power-on leaves of its numbers
 abbrev powered : ℕ → List ℕ
-powered state = fronted (linkNumbers (poweredOn (card state) .link) ++ lockNumbers (poweredOn (card state) .lock)) (numbered state 0)
+powered state =
+    fronted (linkNumbers (poweredOn (card state) .link) ++ modeNumbers (poweredOn (card state) .mode) ++ lockNumbers (poweredOn (card state) .lock))
+    (numbered state 0)
 
 power-inactive : getD (powered 13) 0 0 ≡ 13 → ⊥
 unfolding linkNumbers poweredOn freshLink
@@ -101,6 +115,10 @@ power-inactive e = omega arith
 power-keeps-tags : getD (powered 4) 5 0 ≡ 1 → ⊥
 unfolding linkNumbers poweredOn freshLink
 power-keeps-tags e = omega arith
+
+power-keeps-spi : getD (powered 4) 8 0 ≡ 1 → ⊥
+unfolding linkNumbers modeNumbers poweredOn
+power-keeps-spi e = omega arith
 
 worked-prg : workedNumber 11 ≡ 11 → ⊥
 worked-prg e = omega arith
@@ -118,13 +136,13 @@ sent-told-as-refused : outcomeNumber (Wrote 6) ≡ 6 → ⊥
 sent-told-as-refused e = omega arith
 
 -- a lock request of three bytes at a card with no password: set one of one byte, 9
-password-untold : blockJudged (cardOf (10 ∷ 0 ∷ 7 ∷ 3 ∷ 0 ∷ 0 ∷ 0 ∷ 0 ∷ 0 ∷ 0 ∷ 1 ∷ 0 ∷ []) (replicate 16 0) (replicate 16 0) (replicate 16 0))
+password-untold : blockJudged (cardOf (10 ∷ 0 ∷ 7 ∷ 3 ∷ 0 ∷ 0 ∷ 0 ∷ 0 ∷ 0 ∷ 0 ∷ 0 ∷ 1 ∷ 0 ∷ []) (replicate 16 0) (replicate 16 0) (replicate 16 0))
     (blockOf (1 ∷ 1 ∷ 9 ∷ [])) (seenOf 8192 (0 ∷ [])) .stepped .card .lock .password ≡ replicate 16 0 → ⊥
-unfolding blockJudged awaitedJudged requestJudged requestOf settable oldOf newOf passwordIn stored same holding blockGood blockOf crc16 checkSum remainder divide bits cardOf linkOf lockOf registersOf stateOf entriesRight
+unfolding blockJudged awaitedJudged checkedJudged requestJudged requestOf settable oldOf newOf passwordIn stored same holding blockGood blockOf crc16 checkSum remainder divide bits cardOf linkOf modeOf lockOf registersOf stateOf entriesRight
 password-untold e = let z : _≡_ {A = ℕ} 9 0 = ap (λ (l : List ℕ). getD l 0 0) e in omega arith
 
-sent-unfinished : getD (linkNumbers (outJudged (card 7) (seenOf 8192 (0 ∷ [])) 6 .stepped .card .link)) 0 0 ≡ 7 → ⊥
-unfolding linkNumbers outJudged protectionJudged outGood cardOf linkOf registersOf stateOf entriesRight
+sent-unfinished : getD (linkNumbers (outJudged (card 7) (seenOf 8192 (0 ∷ [])) 7 .stepped .card .link)) 0 0 ≡ 7 → ⊥
+unfolding linkNumbers outJudged bytesJudged outGood cardOf linkOf modeOf registersOf stateOf entriesRight
 sent-unfinished e = omega arith
 
 won-by-256 : wonBy 256 ≡ false → ⊥
@@ -134,13 +152,38 @@ lost-by-0 : wonBy 0 ≡ true → ⊥
 lost-by-0 e = never e
 
 -- a card in tran carries no place: 99 stands for nothing there, and stays
-refused-rewritten : getD (numbersAfter 15 (linkNumbers (card 4 .link)) (numbered 4 99)) 1 0 ≡ 0 → ⊥
+refused-rewritten : getD (numbersAfter 15 (linkNumbers (card 4 .link) ++ modeNumbers (card 4 .mode)) (numbered 4 99)) 1 0 ≡ 0 → ⊥
 refused-rewritten e = omega arith
 
-damage-not-told : getD (numbersAfter 3 (linkNumbers (damagedLink (card 4 .link))) (numbered 4 0)) 4 0 ≡ 0 → ⊥
+damage-not-told : getD (numbersAfter 3 (linkNumbers (damagedLink (card 4 .link)) ++ modeNumbers mmcMode) (numbered 4 0)) 4 0 ≡ 0 → ⊥
 unfolding linkNumbers damagedLink cardOf linkOf stateOf
 damage-not-told e = omega arith
 
-lock-rewritten : getD (numbersAfter 0 (linkNumbers freshLink) (replicate 12 2)) 8 0 ≡ 1 → ⊥
-unfolding linkNumbers freshLink
+lock-rewritten : getD (numbersAfter 0 (linkNumbers freshLink ++ modeNumbers mmcMode) (replicate 13 2)) 9 0 ≡ 1 → ⊥
+unfolding linkNumbers modeNumbers freshLink
 lock-rewritten e = omega arith
+
+-- ---- SPI
+low-by-256 : selectedBy 256 ≡ false → ⊥
+low-by-256 e = never (sym e)
+
+high-by-0 : selectedBy 0 ≡ true → ⊥
+high-by-0 e = never e
+
+-- CMD0 with the select line low
+abbrev entered : Heard
+entered = heardOf mmcMode true freshLink (metAt (numbered 4 0) true) 0 0
+
+spi-untold : getD (numbersAfter 0 (linkNumbers (entered .link) ++ modeNumbers (entered .mode)) (replicate 13 0)) 8 0 ≡ 0 → ⊥
+unfolding linkNumbers modeNumbers heardOf spiHeard takenIn answeredIn moveOf rowOf freshLink
+spi-untold e = omega arith
+
+damage-unanswered : length (byteSent (damagedOf (record { spi = true; checks = true }) true freshLink .sent)) ≡ 0 → ⊥
+unfolding damagedOf faulted answeredIn freshLink
+damage-unanswered e = omega arith
+
+response-untold : length (byteSent (responseTo true (Unsent (by 17)))) ≡ 0 → ⊥
+response-untold e = omega arith
+
+response-for-length : length (byteSent (responseTo true (Unsent (by 16)))) ≡ 1 → ⊥
+response-for-length e = omega arith

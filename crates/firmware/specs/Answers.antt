@@ -1,4 +1,4 @@
--- What a call at a card tells C: its number, the twelve numbers of the record, and how many bytes it wrote.
+-- What a call at a card tells C: its number, the thirteen numbers of the record, and how many bytes it wrote.
 -- Assumes nothing.
 use mathlib.Core.Bool.{Bool, not}
 use mathlib.Core.List.{List, [], _∷_, _++_}
@@ -11,6 +11,8 @@ use Rattle.card_blocks.specs.declared.Outcome.{Outcome}
 use Rattle.card_blocks.specs.declared.Outcome.the-variants.{Done, Wrote, Refused}
 use Rattle.card_record.specs.declared.Making.{Making}
 use Rattle.card_record.specs.declared.Making.the-variants.{Done as Made, Refused as NotMade}
+use Rattle.card_record.specs.declared.Sent.{Sent}
+use Rattle.card_record.specs.declared.Sent.the-variants.{Nothing, Status, Cid, Csd, Ocr, SpiR1, SpiR2, SpiR3, DataResponse}
 use Rattle.command.specs.declared.Met.{Met}
 use Rattle.crossing.specs.Record.{groupsOf, lockedOf}
 use Rattle.moves.specs.Indices.{among}
@@ -25,9 +27,13 @@ outcomeNumber (Refused refusal) = numberOf refusal
 abbrev pub wonBy : ℕ → Bool
 wonBy won = not (eqb won 0)
 
+-- and of the card's select line: 0 that it is high, any other number that it is low
+abbrev pub selectedBy : ℕ → Bool
+selectedBy selected = not (eqb selected 0)
+
 -- what a command meets beside the link, at the card that numbers stand for
 abbrev pub metAt : List ℕ → Bool → Met
-metAt numbers wins = record { ocr = getD numbers 11 0; groups = groupsOf numbers; locked = lockedOf numbers; wins = wins }
+metAt numbers wins = record { ocr = getD numbers 12 0; groups = groupsOf numbers; locked = lockedOf numbers; wins = wins }
 
 -- bytes or numbers at the front of what was lent, and the rest of it as it was: "Output past the answer's end is never written"
 abbrev pub fronted : List ℕ → List ℕ → List ℕ
@@ -38,7 +44,7 @@ fronted told before = told ++ drop (length told) before
 abbrev pub leavesRecord : ℕ → Bool
 leavesRecord number = among number (1 ∷ 2 ∷ 6 ∷ 12 ∷ 15 ∷ [])
 
--- the twelve numbers after a call that answers this number: at their front those that it tells, which is what it may change, and behind them
+-- the thirteen numbers after a call that answers this number: at their front those that it tells, which is what it may change, and behind them
 -- those that were lent. What is not told keeps its form, also where it is wider than its field or stands for nothing; so do all of them where
 -- the record was left
 abbrev pub numbersAfter : ℕ → List ℕ → List ℕ → List ℕ
@@ -57,3 +63,15 @@ abbrev pub wroteOf : Outcome → ℕ
 wroteOf Done = 0
 wroteOf (Wrote n) = n
 wroteOf (Refused refusal) = 0
+
+-- the byte of an answer that has one alone, in SPI: R1 "as one byte", and "data responses"
+abbrev pub byteSent : Sent → List ℕ
+byteSent Nothing = []
+byteSent (Status index status) = []
+byteSent Cid = []
+byteSent Csd = []
+byteSent Ocr = []
+byteSent (SpiR1 first) = first ∷ []
+byteSent (SpiR2 first second) = []
+byteSent (SpiR3 first) = []
+byteSent (DataResponse response) = response ∷ []

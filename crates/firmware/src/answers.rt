@@ -1,8 +1,11 @@
 // What a call at a card tells C beside the record.
 use card_blocks::Outcome;
 use card_record::Making;
+use card_record::Sent;
 ghost use mathlib.Core.Path.{_≡_};
-ghost use Rattle.firmware.specs.Answers.{outcomeNumber, makingNumber, leavesRecord, wroteOf};
+ghost use Prim.Native.Nat.{_≤_};
+ghost use lib.ListN.{length};
+ghost use Rattle.firmware.specs.Answers.{outcomeNumber, makingNumber, leavesRecord, byteSent, fronted, wroteOf};
 
 // The number of what became of a call.
 pub fn outcome_number(outcome: Outcome) -> u8
@@ -56,5 +59,31 @@ pub fn wrote(outcome: Outcome) -> usize
         Outcome::Done => 0,
         Outcome::Wrote(n) => n,
         Outcome::Refused(_) => 0,
+    }
+}
+
+// An answer of one byte, as a damaged frame and a block in have in SPI, to the front of an output. The
+// answer is how many bytes that is: 0 where nothing is sent, or more than a byte.
+pub fn send_byte(sent: Sent, out: &mut [u8]) -> usize
+    requires { ⌜ 1 ≤ length (now out) ⌝ }
+    ensures answer { λ r. ⌜ r ≡ length (byteSent sent) ⌝ }
+    ensures output { λ _. ⌜ now (out .exit) ≡ fronted (byteSent sent) (now (out .entry)) ⌝ }
+{
+    match sent {
+        Sent::Nothing => 0,
+        Sent::Status { .. } => 0,
+        Sent::Cid => 0,
+        Sent::Csd => 0,
+        Sent::Ocr => 0,
+        Sent::SpiR1(first) => {
+            out[0] = first;
+            1
+        }
+        Sent::SpiR2 { .. } => 0,
+        Sent::SpiR3(_) => 0,
+        Sent::DataResponse(response) => {
+            out[0] = response;
+            1
+        }
     }
 }

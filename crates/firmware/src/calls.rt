@@ -1,5 +1,5 @@
 // The calls of one card for C that are never given a frame or a block. A record crosses in four parts,
-// which mmc.h puts together as one: twelve numbers, and the bytes of the CID, the CSD and the password
+// which mmc.h puts together as one: thirteen numbers, and the bytes of the CID, the CSD and the password
 // (crates/crossing). The promise of each call of a card says all that it leaves: its number, each lent
 // number and byte, and that the parts then stand for the card's next record, so that a row of calls
 // from C is the same row at the card.
@@ -10,7 +10,7 @@ use crossing::tell_link_and_lock;
 ghost use mathlib.Core.List.{_++_};
 ghost use mathlib.Core.Path.{_≡_};
 ghost use lib.ListN.{length, getD, set};
-ghost use Rattle.crossing.specs.Record.{cardOf, linkNumbers, lockNumbers, numbersOf};
+ghost use Rattle.crossing.specs.Record.{cardOf, linkNumbers, modeNumbers, lockNumbers, numbersOf};
 ghost use Rattle.card_record.specs.Making.{madeOf};
 ghost use Rattle.card_record.specs.Power.{poweredOn, worked};
 ghost use Rattle.firmware.specs.Answers.{makingNumber, workedNumber, fronted};
@@ -19,7 +19,7 @@ ghost use Rattle.firmware.specs.Answers.{makingNumber, workedNumber, fro
 // leave, Inactive and all zeros.
 #[no_mangle]
 pub extern "C" fn mmc_parts_make(
-    numbers: &mut [u32; 12],
+    numbers: &mut [u32; 13],
     cid: &mut [u8; 16],
     csd: &mut [u8; 16],
     password: &mut [u8; 16],
@@ -58,27 +58,28 @@ pub extern "C" fn mmc_parts_make(
 // Power-on, from any state: never refused.
 #[no_mangle]
 pub extern "C" fn mmc_parts_power_on(
-    numbers: &mut [u32; 12],
+    numbers: &mut [u32; 13],
     cid: &[u8; 16],
     csd: &[u8; 16],
     password: &[u8; 16],
 )
     ensures left { λ _.
         let next = poweredOn (cardOf (now (numbers .entry)) (now (cid .entry)) (now (csd .entry)) (now (password .entry))) in
-        ⌜ (now (numbers .exit) ≡ fronted (linkNumbers (next .link) ++ lockNumbers (next .lock)) (now (numbers .entry)))
+        ⌜ (now (numbers .exit) ≡ fronted (linkNumbers (next .link) ++ modeNumbers (next .mode) ++ lockNumbers (next .lock)) (now (numbers .entry)))
         × (cardOf (now (numbers .exit)) (now (cid .entry)) (now (csd .entry)) (now (password .entry)) ≡ next) ⌝ }
 {
     let card = card_of(*numbers, *cid, *csd, *password);
     let next = card_record::power_on(card);
     let link = next.link;
+    let mode = next.mode;
     let lock = next.lock;
-    tell_link_and_lock(link, lock, numbers);
+    tell_link_and_lock(link, mode, lock, numbers);
 }
 
 // Work done: never refused. The state's number is altered in its place, and no record taken in.
 #[no_mangle]
 pub extern "C" fn mmc_parts_work_done(
-    numbers: &mut [u32; 12],
+    numbers: &mut [u32; 13],
     cid: &[u8; 16],
     csd: &[u8; 16],
     password: &[u8; 16],

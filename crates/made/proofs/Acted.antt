@@ -4,7 +4,7 @@
 -- that the error bits which its answer leaves are ones that can wait (`Pending`; `errors-made` puts them into the link).
 -- Assumes nothing.
 use mathlib.Core.Path.{_≡_, refl, sym, ap, subst, _∙_}
-use mathlib.Core.Bool.{true, false}
+use mathlib.Core.Bool.{Bool, true, false}
 use mathlib.Core.List.{List, [], _∷_}
 use Prim.Native.Nat.{ℕ, _+_, _/_, _≤_}
 use native.Mathlib.Omega.{arith}
@@ -23,7 +23,7 @@ use Rattle.states.specs.States.{columnOf}
 use Rattle.states.specs.declared.Column.{Column}
 use Rattle.states.specs.declared.Column.the-variants as to
 use Rattle.states.specs.declared.Incoming.the-variants.{One as OneIn, Many as ManyIn, LockRequest}
-use Rattle.states.specs.declared.Outgoing.the-variants.{One as OneOut, Many as ManyOut, Protection}
+use Rattle.states.specs.declared.Outgoing.the-variants.{One as OneOut, Many as ManyOut, Protection, Csd, Cid}
 use Rattle.states.specs.declared.State.the-variants.{Tran, Data, Rcv}
 use Rattle.tags.proofs.TagTheorems.{made-start, made-end}
 use Rattle.tags.specs.Made.{MadeTags}
@@ -48,7 +48,7 @@ module _ (c : Meeting) where
   -- "CMD0 .. does the same" as power-on
   idle : Acts c 0
   unfolding actedOf
-  idle column h = fresh-made (c .met .groups) (c .met .locked)
+  idle column h = fresh-made (c .spi) (c .met .groups) (c .met .locked)
 
   -- 3: "address taken"
   addressed : Acts c 3
@@ -181,9 +181,18 @@ module _ (c : Meeting) where
   unfolding taggingOf obeyed awaitedBy
   erase = acting c 38 refl (λ column h p e. rw (erasing-drops (c .link .tags .range)) (still c column))
 
+  -- ---- registers, which SPI sends as blocks
+  read-csd : Acts c 9
+  unfolding taggingOf argumentFault obeyed awaitedBy
+  read-csd = acting c 9 refl (λ column h p e. begun c column (Data Csd) tt)
+
+  read-cid : Acts c 10
+  unfolding taggingOf argumentFault obeyed awaitedBy
+  read-cid = acting c 10 refl (λ column h p e. begun c column (Data Cid) tt)
+
   -- ---- every other command drops tags and moves, and no more
   abbrev named : List ℕ
-  named = 0 ∷ 3 ∷ 13 ∷ 16 ∷ 17 ∷ 18 ∷ 24 ∷ 25 ∷ 30 ∷ 32 ∷ 33 ∷ 35 ∷ 36 ∷ 38 ∷ 42 ∷ []
+  named = 0 ∷ 3 ∷ 9 ∷ 10 ∷ 13 ∷ 16 ∷ 17 ∷ 18 ∷ 24 ∷ 25 ∷ 30 ∷ 32 ∷ 33 ∷ 35 ∷ 36 ∷ 38 ∷ 42 ∷ []
 
   module _ (index : ℕ) (other : among index named ≡ false) where
     apart : (k : ℕ) → among k named ≡ true → eqb index k ≡ false
@@ -200,6 +209,8 @@ module _ (c : Meeting) where
         (λ column h p e.
         simp (
           apart 3 refl,
+          apart 9 refl,
+          apart 10 refl,
           apart 13 refl,
           apart 16 refl,
           apart 17 refl,
@@ -223,17 +234,23 @@ module _ (c : Meeting) where
         (
           addressed,
           (
-            status,
+            read-csd,
             (
-              lengthened,
-              (read-one, (read-many, (write-one, (write-many, (read-protection, (sector-start, (sector-end, (group-start, (group-end, (erase, (request, tt))))))))))),
+              read-cid,
+              (
+                status,
+                (
+                  lengthened,
+                  (read-one, (read-many, (write-one, (write-many, (read-protection, (sector-start, (sector-end, (group-start, (group-end, (erase, (request, tt))))))))))),
+                ),
+              ),
             ),
           ),
         ),
       ) index)
       (plain index)
 
-pub acted-made : (link : Link) (met : Met) (index argument : ℕ) (column : Column) → MadeLink (met .groups) (met .locked) link
-    → Leading index (columnOf (link .state)) column → MadeLink (met .groups) (met .locked) (actedOf link met index argument column .link)
-acted-made link met index argument column made leads =
-    every (record { link = link; met = met; argument = argument; made = made }) index column leads
+pub acted-made : (spi : Bool) (link : Link) (met : Met) (index argument : ℕ) (column : Column) → MadeLink spi (met .groups) (met .locked) link
+    → Leading index (columnOf (link .state)) column → MadeLink spi (met .groups) (met .locked) (actedOf link met index argument column .link)
+acted-made spi link met index argument column made leads =
+    every (record { link = link; met = met; argument = argument; spi = spi; made = made }) index column leads

@@ -4,7 +4,7 @@
 --   link-made    after a command of any index and argument, whatever the OCR, whether the card would win the line or not
 -- Assumes nothing.
 use mathlib.Core.Path.{_≡_, refl}
-use mathlib.Core.Bool.{true}
+use mathlib.Core.Bool.{true, false}
 use mathlib.Core.List.{[], _∷_}
 use Prim.Native.Nat.{ℕ}
 use lib.Dec.{eqb}
@@ -100,45 +100,45 @@ module _ (link : Link) (met : Met) (index argument : ℕ) where
       }
 
   -- ---- the answer
-  module _ (made : MadeLink (met .groups) (met .locked) link) where
+  module _ (made : MadeLink false (met .groups) (met .locked) link) where
     abbrev judged : Tagging
     judged = judgedOf link (met .groups) (met .locked) index argument
 
     abbrev Reported : Acted → Type 0
-    Reported acted = Pending (leftOf (responseOf (rowAt index)) (acted .errors))
+    Reported acted = Pending false (leftOf (responseOf (rowAt index)) (acted .errors))
 
     checked : (column : Column) → moveOf (rowAt index) on ≡ To column → (error : Fault) → judged .error ≡ error
         → Reported (afterChecks link index argument column (judged .tags) error)
     unfolding afterChecks
     checked column taken None e = left-pending (responseOf (rowAt index)) (resetTold link index) (told-pending link index (made .errors))
-    checked column taken (Bit bit) e = rw (fault-by-r1 link met index argument bit e column taken) none-pending
+    checked column taken (Bit bit) e = rw (fault-by-r1 link met index argument bit e column taken) (none-pending false)
 
     reported : (column : Column) → moveOf (rowAt index) on ≡ To column → Reported (actedOf link met index argument column)
     unfolding actedOf
     reported column taken =
-        picked Reported (eqb index 0) (λ t. left-pending (responseOf (rowAt index)) noErrors none-pending)
+        picked Reported (eqb index 0) (λ t. left-pending (responseOf (rowAt index)) noErrors (none-pending false))
         (λ t. checked column taken (judged .error) refl)
 
     -- ---- the moves
     abbrev Kept : Commanded → Type 0
-    Kept given = MadeLink (met .groups) (met .locked) (given .link)
+    Kept given = MadeLink false (met .groups) (met .locked) (given .link)
 
     taken-made : (column : Column) → moveOf (rowAt index) on ≡ To column → Kept (takenOf link met asked (rowAt index) column)
     unfolding takenOf answered
     taken-made column taken =
-        errors-made (met .groups) (met .locked) (actedOf link met index argument column .link) _
-        (acted-made link met index argument column made (leading column taken)) (reported column taken)
+        errors-made false (met .groups) (met .locked) (actedOf link met index argument column .link) _
+        (acted-made false link met index argument column made (leading column taken)) (reported column taken)
 
     by-move : (move : Move) → moveOf (rowAt index) on ≡ move → Kept (movedBy link met asked (rowAt index) move)
     by-move Ignored e = made
     by-move Silent e = made
     by-move Illegal e =
-        errors-made (met .groups) (met .locked) link (withBit (link .errors) (errorBit 22)) made
-        (set-pending (link .errors) (errorBit 22) refl (made .errors))
+        errors-made false (met .groups) (met .locked) link (withBit (link .errors) (errorBit 22)) made
+        (set-pending false (link .errors) (errorBit 22) refl (made .errors))
     by-move (To column) e = taken-made column e
 
-pub link-made : (link : Link) (met : Met) (index argument : ℕ) → MadeLink (met .groups) (met .locked) link
-    → MadeLink (met .groups) (met .locked) (commandOf link met index argument .link)
+pub link-made : (link : Link) (met : Met) (index argument : ℕ) → MadeLink false (met .groups) (met .locked) link
+    → MadeLink false (met .groups) (met .locked) (commandOf link met index argument .link)
 unfolding commandOf
 link-made link met index argument made =
     by-move link met index argument made (moveOf (rowOf (receivedOf link met index argument)) (columnOf (link .state))) refl

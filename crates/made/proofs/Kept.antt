@@ -42,22 +42,22 @@ module _ (card : Card) where
   out-same (across outgoing on) = (refl, refl)
   out-same (sends outgoing next n sending on within) = (refl, refl)
 
-  judged-same : (wins : Bool) (frame : List ℕ) (seen : Seen) {judged : FrameJudged} → FrameOutcome card wins frame seen judged
+  judged-same : (wins selected : Bool) (frame : List ℕ) (seen : Seen) {judged : FrameJudged} → FrameOutcome card wins selected frame seen judged
       → Same (judged .stepped .card)
-  judged-same wins frame seen (unheard n listed) = (refl, refl)
-  judged-same wins frame seen damaged = (refl, refl)
-  judged-same wins frame seen (commands index argument is lent) = (refl, refl)
+  judged-same wins selected frame seen (unheard n listed) = (refl, refl)
+  judged-same wins selected frame seen (damaged index argument is fails) = (refl, refl)
+  judged-same wins selected frame seen (commands index argument right is passes lent) = (refl, refl)
 
-  frame-same : (wins : Bool) (frame : List ℕ) (seen : Seen) → Same (frameStepped card wins frame seen .card)
+  frame-same : (wins selected : Bool) (frame : List ℕ) (seen : Seen) → Same (frameStepped card wins selected frame seen .card)
   unfolding frameStepped
-  frame-same wins frame seen =
-      let same = judged-same wins frame seen (frame-outcome card wins frame seen) in
-      told (λ (s : Stepped). Same (s .card)) (frameJudged card wins frame seen .stepped)
-      (spares card seen (frameJudged card wins frame seen .change)) same same
+  frame-same wins selected frame seen =
+      let same = judged-same wins selected frame seen (frame-outcome card wins selected frame seen) in
+      told (λ (s : Stepped). Same (s .card)) (frameJudged card wins selected frame seen .stepped)
+      (spares card seen (frameJudged card wins selected frame seen .change)) same same
 
   pub registers-kept : (call : Call) (input : List ℕ) (seen : Seen) (room : ℕ) → stepOf card call input seen room .card .registers ≡ card .registers
   unfolding worked poweredOn
-  registers-kept (Frame wins) input seen room = frame-same wins input seen .0
+  registers-kept (Frame wins selected) input seen room = frame-same wins selected input seen .0
   registers-kept BlockIn input seen room = in-registers input seen (block-outcome card input seen)
   registers-kept BlockOut input seen room = out-same (out-outcome card seen room) .0
   registers-kept WorkDone input seen room = refl
@@ -65,7 +65,7 @@ module _ (card : Card) where
 
   -- a call that is neither a block in nor power-on
   abbrev pub KeepsLock : Call → Type 0
-  KeepsLock (Frame wins) = Unit {0}
+  KeepsLock (Frame wins selected) = Unit {0}
   KeepsLock BlockIn = ⊥
   KeepsLock BlockOut = Unit {0}
   KeepsLock WorkDone = Unit {0}
@@ -74,7 +74,7 @@ module _ (card : Card) where
   pub lock-kept : (call : Call) → KeepsLock call → (input : List ℕ) (seen : Seen) (room : ℕ)
       → stepOf card call input seen room .card .lock ≡ card .lock
   unfolding worked
-  lock-kept (Frame wins) other input seen room = frame-same wins input seen .1
+  lock-kept (Frame wins selected) other input seen room = frame-same wins selected input seen .1
   lock-kept BlockIn other input seen room = absurd other
   lock-kept BlockOut other input seen room = out-same (out-outcome card seen room) .1
   lock-kept WorkDone other input seen room = refl

@@ -17,6 +17,7 @@ use Rattle.base.specs.Choice.{pick}
 use Rattle.base.specs.Refusals.{by}
 use Rattle.base.specs.declared.Refusal.{Refusal}
 use Rattle.card_blocks.specs.BlockIn.{storedBy, blockJudged}
+use Rattle.card_blocks.specs.Framing.{unstarted}
 use Rattle.card.specs.Frame.{frameJudged, changedBy}
 use Rattle.card.specs.Step.{lentAfter}
 use Rattle.card.specs.declared.Call.{Call}
@@ -94,8 +95,8 @@ stored-entries block (Sector sector) lent e = e
 stored-entries block All lent e = entries-clear (length (lent .map)) (length (replicate (length (lent .map)) 0))
 
 lent-entries : (card : Card) (call : Call) (input : List ℕ) (lent : Lent) → Entries (lent .map) → Entries (lentAfter card call input lent .map)
-lent-entries card (Frame wins) input lent e = changed-entries card (frameJudged card wins input (seen lent) .change) lent e
-lent-entries card BlockIn input lent e = stored-entries input (blockJudged card input (seen lent) .storing) lent e
+lent-entries card (Frame wins selected) input lent e = changed-entries card (frameJudged card wins selected input (seen lent) .change) lent e
+lent-entries card BlockIn input lent e = stored-entries (unstarted (card .mode .spi) input) (blockJudged card input (seen lent) .storing) lent e
 lent-entries card BlockOut input lent e = e
 lent-entries card WorkDone input lent e = e
 lent-entries card PowerOn input lent e = e

@@ -2,11 +2,14 @@ pub mod Acted
 pub mod Blocks
 pub mod Commands
 pub mod Faults
+pub mod InSpi
 pub mod InRange
 pub mod Kept
+pub mod LeadingInSpi
 pub mod Lent
 pub mod Links
 pub mod Locks
+pub mod Modes
 pub mod Never12
 pub mod Pending
 pub mod Reached

@@ -1,13 +1,13 @@
 -- Links that are made, where no command's meaning matters.
 --   fresh-made       after power-on and CMD0
---   damaged-made     after a frame whose CRC7 is wrong
+--   damaged-made     after a frame whose CRC7 is wrong, in MMC mode
 --   errors-made      with other error bits that can wait
 --   at-waits         the state that a column stands for waits for nothing, or for the work
---   told-pending     the pending error bits with 13, where the command drops tags
+--   told-pending     the pending error bits with 13, where the command drops tags, in MMC mode
 --   left-pending     the error bits that MMC mode's answer leaves
 -- Assumes nothing.
 use mathlib.Core.Path.{refl}
-use mathlib.Core.Bool.{Bool}
+use mathlib.Core.Bool.{Bool, false}
 use Prim.Native.Nat.{ℕ}
 use native.Mathlib.Omega.{arith}
 use lib.Dec.{eqb}
@@ -31,20 +31,21 @@ use Rattle.tags.specs.Tagging.{anyOf}
 use Rattle.made.proofs.Pending.{none-pending, set-pending, taken-pending}
 use Rattle.made.specs.Made.{Waits, Pending, MadeLink}
 
-pub fresh-made : (groups : ℕ) (locked : Bool) → MadeLink groups locked freshLink
+pub fresh-made : (spi : Bool) (groups : ℕ) (locked : Bool) → MadeLink spi groups locked freshLink
 unfolding freshLink
-fresh-made groups locked =
-    record { address = omega arith; block = (omega arith, omega arith); tags = tt; tagged = λ e. never e; work = tt; errors = none-pending }
+fresh-made spi groups locked =
+    record { address = omega arith; block = (omega arith, omega arith); tags = tt; tagged = λ e. never e; work = tt; errors = none-pending spi }
 
-pub errors-made : (groups : ℕ) (locked : Bool) (link : Link) (errors : Errors) → MadeLink groups locked link → Pending errors → MadeLink groups locked (withErrors link errors)
-errors-made groups locked link errors made pending =
+pub errors-made : (spi : Bool) (groups : ℕ) (locked : Bool) (link : Link) (errors : Errors) → MadeLink spi groups locked link → Pending spi errors
+    → MadeLink spi groups locked (withErrors link errors)
+errors-made spi groups locked link errors made pending =
     record { address = made .address; block = made .block; tags = made .tags; tagged = made .tagged; work = made .work; errors = pending }
 
-pub damaged-made : (groups : ℕ) (locked : Bool) (link : Link) → MadeLink groups locked link → MadeLink groups locked (damagedLink link)
+pub damaged-made : (groups : ℕ) (locked : Bool) (link : Link) → MadeLink false groups locked link → MadeLink false groups locked (damagedLink link)
 unfolding damagedLink
 damaged-made groups locked link made =
-    picked (MadeLink groups locked) (eqb (columnNumber (columnOf (link .state))) 9) (λ t. made)
-    (λ t. errors-made groups locked link (withBit (link .errors) (errorBit 23)) made (set-pending (link .errors) (errorBit 23) refl (made .errors)))
+    picked (MadeLink false groups locked) (eqb (columnNumber (columnOf (link .state))) 9) (λ t. made)
+    (λ t. errors-made false groups locked link (withBit (link .errors) (errorBit 23)) made (set-pending false (link .errors) (errorBit 23) refl (made .errors)))
 
 pub at-waits : (groups length : ℕ) (locked : Bool) (column : Column) (work : State) → Waits groups length locked work → Waits groups length locked (stateAt column work)
 at-waits groups length locked Idle work w = tt
@@ -58,14 +59,14 @@ at-waits groups length locked Prg work w = tt
 at-waits groups length locked Dis work w = tt
 at-waits groups length locked Ina work w = tt
 
-pub told-pending : (link : Link) (index : ℕ) → Pending (link .errors) → Pending (resetTold link index)
+pub told-pending : (link : Link) (index : ℕ) → Pending false (link .errors) → Pending false (resetTold link index)
 unfolding resetTold
 told-pending link index pending =
-    guarded Pending (dropsTags index) (λ t. pending)
-    (λ t. guarded Pending (anyOf (link .tags)) (λ u. pending) (λ u. set-pending (link .errors) (errorBit 13) refl pending))
+    guarded (Pending false) (dropsTags index) (λ t. pending)
+    (λ t. guarded (Pending false) (anyOf (link .tags)) (λ u. pending) (λ u. set-pending false (link .errors) (errorBit 13) refl pending))
 
-pub left-pending : (response : Response) (errors : Errors) → Pending errors → Pending (leftOf response errors)
-left-pending Nothing errors h = taken-pending errors h
-left-pending R1 errors h = none-pending
-left-pending R2 errors h = taken-pending errors h
-left-pending R3 errors h = taken-pending errors h
+pub left-pending : (response : Response) (errors : Errors) → Pending false errors → Pending false (leftOf response errors)
+left-pending Nothing errors h = taken-pending false errors h
+left-pending R1 errors h = none-pending false
+left-pending R2 errors h = taken-pending false errors h
+left-pending R3 errors h = taken-pending false errors h

@@ -11,10 +11,11 @@ use lib.ListN.{length, take}
 use Rattle.base.proofs.Cases.{guarded, clash}
 use Rattle.base.specs.Refusals.{by}
 use Rattle.card.proofs.Outcomes.{told}
-use Rattle.card_blocks.specs.BlockIn.{beside, awaitedLength, blockRefused, blockGood, writeJudged, lockJudged, requestJudged, carriedOut, awaitedJudged, stateJudged, blockJudged}
-use Rattle.card_blocks.specs.BlockOut.{outRefused, outGood, partJudged, protectionJudged, outgoingJudged, stateSends, outJudged}
+use Rattle.card_blocks.specs.BlockIn.{awaitedLength, blockRefused, blockGood, writeJudged, lockJudged, requestJudged, carriedOut, checkedJudged, awaitedJudged, stateJudged, blockJudged}
+use Rattle.card_blocks.specs.BlockOut.{outRefused, outGood, partJudged, bytesJudged, outgoingJudged, stateSends, outJudged}
 use Rattle.card.specs.Frame.{FrameJudged, framed, frameJudged, spares, frameStepped}
 use Rattle.card.specs.Step.{stepOf}
+use Rattle.card_blocks.specs.Framing.{beside, started, unstarted, crcRight}
 use Rattle.card_blocks.specs.declared.BlockJudged.{BlockJudged}
 use Rattle.card.specs.declared.Call.{Call}
 use Rattle.card.specs.declared.Call.the-variants.{Frame, BlockIn, BlockOut, WorkDone, PowerOn}
@@ -23,7 +24,7 @@ use Rattle.card_blocks.specs.declared.Outcome.{Outcome}
 use Rattle.card_blocks.specs.declared.Outcome.the-variants.{Refused}
 use Rattle.card_blocks.specs.declared.Stepped.{Stepped}
 use Rattle.crc.specs.Bits.{bits}
-use Rattle.crc.specs.Crc.{crc16}
+use Rattle.spi.specs.Hearing.{crcPasses}
 use Rattle.lock.specs.Requests.{requestOf}
 use Rattle.lock.specs.declared.Answer.{Answer}
 use Rattle.lock.specs.declared.Answer.the-variants.{Granted, Erased, Failed}
@@ -34,13 +35,13 @@ use Rattle.card_record.specs.declared.Making.the-variants.{Done}
 use Rattle.states.specs.declared.Incoming.{Incoming}
 use Rattle.states.specs.declared.Incoming.the-variants.{One as OneIn, Many as ManyIn, LockRequest}
 use Rattle.states.specs.declared.Outgoing.{Outgoing}
-use Rattle.states.specs.declared.Outgoing.the-variants.{One as OneOut, Many as ManyOut, Protection}
+use Rattle.states.specs.declared.Outgoing.the-variants.{One as OneOut, Many as ManyOut, Protection, Csd as CsdOut, Cid as CidOut}
 use Rattle.states.specs.declared.State.{State}
 use Rattle.states.specs.declared.State.the-variants.{Idle, Ready, Ident, Stby, Tran, Data, Rcv, Prg, Dis, Ina}
 use Rattle.store.specs.Lent.{Lent, Seen, seen, lendingOf}
 use Rattle.store.specs.Map.{protectedIn}
 use Rattle.store.specs.declared.Lending.the-variants.{Right}
-use Rattle.wire.specs.Blocks.{payloadOf, crcIn}
+use Rattle.wire.specs.Blocks.{payloadOf}
 use Rattle.wire.specs.Frames.{crc7Of, field, fieldsOf, framingOf}
 use Rattle.wire.specs.declared.Framing.{Framing}
 use Rattle.made.specs.Run.{World, Input, outcomeOf, runOf, madeLent, begun}
@@ -60,20 +61,20 @@ module _ (card : Card) where
   abbrev OutNot : OutJudged → Type 0
   OutNot judged = Not12 (judged .stepped .reply .outcome)
 
-  abbrev Reads : Bool → Framing → Type 0
-  Reads wins framing = FrameNot (framed card wins framing)
+  abbrev Reads : Bool → Bool → Framing → Type 0
+  Reads wins selected framing = FrameNot (framed card wins selected framing)
 
-  framed-not : (wins : Bool) (frame : List ℕ) → FrameNot (framed card wins (framingOf frame))
+  framed-not : (wins selected : Bool) (frame : List ℕ) → FrameNot (framed card wins selected (framingOf frame))
   unfolding framingOf fieldsOf
-  framed-not wins frame =
-      guarded (Reads wins) (eqb (length frame) 6) (λ t e. clash cc)
+  framed-not wins selected frame =
+      guarded (Reads wins selected) (eqb (length frame) 6) (λ t e. clash cc)
       (λ t.
-      guarded (Reads wins) (eqb (field (bits frame) 0 1) 0) (λ u e. clash cc)
+      guarded (Reads wins selected) (eqb (field (bits frame) 0 1) 0) (λ u e. clash cc)
       (λ u.
-      guarded (Reads wins) (eqb (field (bits frame) 1 1) 1) (λ v e. clash cc)
+      guarded (Reads wins selected) (eqb (field (bits frame) 1 1) 1) (λ v e. clash cc)
       (λ v.
-      guarded (Reads wins) (eqb (field (bits frame) 47 1) 1) (λ w e. clash cc)
-      (λ w. guarded FrameNot (eqb (field (bits frame) 40 7) (crc7Of (take 40 (bits frame)))) (λ x e. clash cc) (λ x e. clash cc)))))
+      guarded (Reads wins selected) (eqb (field (bits frame) 47 1) 1) (λ w e. clash cc)
+      (λ w. guarded FrameNot (crcPasses (card .mode) (field (bits frame) 2 6) (eqb (field (bits frame) 40 7) (crc7Of (take 40 (bits frame))))) (λ x e. clash cc) (λ x e. clash cc)))))
 
   write-not : (incoming : Incoming) (sector : ℕ) (map : List ℕ) → InNot (writeJudged card incoming sector map)
   unfolding writeJudged blockRefused blockGood
@@ -95,10 +96,13 @@ module _ (card : Card) where
       lock-not (requestOf (card .lock) payload (csdProtects (card .registers .csd)) .lock) (requestOf (card .lock) payload (csdProtects (card .registers .csd)) .answer)
 
   awaited-not : (incoming : Incoming) (block map : List ℕ) → InNot (awaitedJudged card incoming block map)
-  unfolding awaitedJudged blockRefused
+  unfolding awaitedJudged checkedJudged blockRefused
   awaited-not incoming block map =
-      guarded InNot (eqb (length block) (awaitedLength card incoming + beside)) (λ t e. clash cc)
-      (λ t. guarded InNot (eqb (crcIn block) (crc16 (payloadOf block))) (λ u e. clash cc) (λ u. carried-not incoming (payloadOf block) map))
+      let given : List ℕ = unstarted (card .mode .spi) block in
+      guarded InNot (eqb (length block) (awaitedLength card incoming + beside (card .mode .spi))) (λ t e. clash cc)
+      (λ t.
+      guarded InNot (started (card .mode .spi) block) (λ u e. clash cc)
+      (λ u. guarded InNot (crcRight (card .mode) given) (λ v e. clash cc) (λ v. carried-not incoming (payloadOf given) map)))
 
   in-not : (state : State) (block map : List ℕ) → InNot (stateJudged card state block map)
   in-not Idle block map e = clash cc
@@ -115,16 +119,18 @@ module _ (card : Card) where
   part-not : (outgoing : Outgoing) (at n room : ℕ) → OutNot (partJudged card outgoing at n room)
   unfolding partJudged outRefused outGood
   part-not outgoing at n room =
-      guarded OutNot (leb (n + beside) room) (λ t e. clash cc)
+      guarded OutNot (leb (n + beside (card .mode .spi)) room) (λ t e. clash cc)
       (λ t.
       guarded OutNot (leb (at + n) (sizeOf (card .registers .groups))) (λ u e. clash cc)
       (λ u. guarded OutNot (not (crosses at n)) (λ v e. clash cc) (λ v e. clash cc)))
 
   outgoing-not : (outgoing : Outgoing) (room : ℕ) → OutNot (outgoingJudged card outgoing room)
-  unfolding protectionJudged outGood
+  unfolding bytesJudged outGood
   outgoing-not (OneOut at) room = part-not (OneOut at) at (lengthRead (card .link .length)) room
   outgoing-not (ManyOut at) room = part-not (ManyOut at) at (lengthRead (card .link .length)) room
-  outgoing-not (Protection group) room = guarded OutNot (leb (4 + beside) room) (λ t e. clash cc) (λ t e. clash cc)
+  outgoing-not (Protection group) room = guarded OutNot (leb (4 + beside (card .mode .spi)) room) (λ t e. clash cc) (λ t e. clash cc)
+  outgoing-not CsdOut room = guarded OutNot (leb (16 + beside (card .mode .spi)) room) (λ t e. clash cc) (λ t e. clash cc)
+  outgoing-not CidOut room = guarded OutNot (leb (16 + beside (card .mode .spi)) room) (λ t e. clash cc) (λ t e. clash cc)
 
   out-not : (state : State) (room : ℕ) → OutNot (stateSends card state room)
   out-not Idle room e = clash cc
@@ -139,9 +145,9 @@ module _ (card : Card) where
   out-not Ina room e = clash cc
 
   module _ (seen : Seen) (right : lendingOf seen (card .registers .groups) ≡ Right) where
-    frame-judged-not : (wins : Bool) (frame : List ℕ) → FrameNot (frameJudged card wins frame seen)
+    frame-judged-not : (wins selected : Bool) (frame : List ℕ) → FrameNot (frameJudged card wins selected frame seen)
     unfolding frameJudged
-    frame-judged-not wins frame = rw right (framed-not wins frame)
+    frame-judged-not wins selected frame = rw right (framed-not wins selected frame)
 
     in-judged-not : (block : List ℕ) → InNot (blockJudged card block seen)
     unfolding blockJudged
@@ -153,10 +159,10 @@ module _ (card : Card) where
 
     pub lent-never-12 : (call : Call) (input : List ℕ) (room : ℕ) → stepOf card call input seen room .reply .outcome ≡ Refused (by 12) → ⊥
     unfolding frameStepped
-    lent-never-12 (Frame wins) input room =
-        let same = frame-judged-not wins input in
-        told (λ (s : Stepped). Not12 (s .reply .outcome)) (frameJudged card wins input seen .stepped)
-        (spares card seen (frameJudged card wins input seen .change)) same same
+    lent-never-12 (Frame wins selected) input room =
+        let same = frame-judged-not wins selected input in
+        told (λ (s : Stepped). Not12 (s .reply .outcome)) (frameJudged card wins selected input seen .stepped)
+        (spares card seen (frameJudged card wins selected input seen .change)) same same
     lent-never-12 BlockIn input room = in-judged-not input
     lent-never-12 BlockOut input room = out-judged-not room
     lent-never-12 WorkDone input room = λ e. clash cc

@@ -31,6 +31,7 @@ use Rattle.states.specs.declared.State.the-variants.{Stby, Rcv}
 use Rattle.status.specs.Status.{wordOf}
 use Rattle.store.specs.Lent.{Lent, lentOf}
 use Rattle.store.specs.Map.{entriesRight}
+use Rattle.spi.specs.Hearing.{heardOf}
 use Rattle.wire.specs.Frames.{crc7Of, sealed, commandFrame, fieldsOf, framingOf}
 use Rattle.wire.specs.Responses.{lastByte, registerRight}
 use Rattle.made.specs.Made.{Made}
@@ -50,29 +51,29 @@ made-some = refl
 -- CMD1 of the window, CMD2, CMD3 to address 1, CMD7 to it, CMD24 at 512
 abbrev written : List Input
 written =
-    map (given (Frame true))
+    map (given (Frame true false))
     (commandFrame 1 0x00FF8000 ∷ commandFrame 2 0 ∷ commandFrame 3 0x00010000 ∷ commandFrame 7 0x00010000 ∷ commandFrame 24 512 ∷ [])
 
 pub reaches-one : runOf (begun register register 0x00FF8000 [] erased) written .card .link .state ≡ Rcv (One 512)
-unfolding runOf next madeOf passwordMade lockMadeOf holding poweredOf stored registerRight lastByte crc7Of remainder divide bits entriesRight commandFrame sealed framingOf fieldsOf freshLink frameStepped frameJudged commandOf rowOf transferRow moveOf classOf takenOf actedOf afterChecks answered responseOf resetTold wordOf judgedOf taggingOf argumentFault obeyed awaitedBy changeOf
+unfolding runOf next madeOf passwordMade lockMadeOf holding poweredOf stored registerRight lastByte crc7Of remainder divide bits entriesRight commandFrame sealed framingOf fieldsOf freshLink frameStepped frameJudged heardOf commandOf rowOf transferRow moveOf classOf takenOf actedOf afterChecks answered responseOf resetTold wordOf judgedOf taggingOf argumentFault obeyed awaitedBy changeOf
 reaches-one = refl
 
 -- CMD1 of the window, and a round of CMD2 and CMD3 for each verdict of the line, with addresses from 2 on
 abbrev opened : World
-opened = next (begun register register 0x00FF8000 [] erased) (given (Frame true) (commandFrame 1 0x00FF8000))
+opened = next (begun register register 0x00FF8000 [] erased) (given (Frame true false) (commandFrame 1 0x00FF8000))
 
 abbrev lost : World
-lost = runOf opened (given (Frame false) (commandFrame 2 0) ∷ given (Frame true) (commandFrame 3 0x00020000) ∷ [])
+lost = runOf opened (given (Frame false false) (commandFrame 2 0) ∷ given (Frame true false) (commandFrame 3 0x00020000) ∷ [])
 
 abbrev won : World
-won = runOf lost (given (Frame true) (commandFrame 2 0) ∷ given (Frame true) (commandFrame 3 0x00030000) ∷ [])
+won = runOf lost (given (Frame true false) (commandFrame 2 0) ∷ given (Frame true false) (commandFrame 3 0x00030000) ∷ [])
 
 pub loser-waits : lost ≡ opened
-unfolding runOf next madeOf passwordMade lockMadeOf holding poweredOf stored registerRight lastByte crc7Of remainder divide bits entriesRight commandFrame sealed framingOf fieldsOf freshLink frameStepped frameJudged commandOf rowOf transferRow moveOf classOf takenOf actedOf afterChecks answered responseOf resetTold wordOf judgedOf taggingOf argumentFault obeyed awaitedBy changeOf
+unfolding runOf next madeOf passwordMade lockMadeOf holding poweredOf stored registerRight lastByte crc7Of remainder divide bits entriesRight commandFrame sealed framingOf fieldsOf freshLink frameStepped frameJudged heardOf commandOf rowOf transferRow moveOf classOf takenOf actedOf afterChecks answered responseOf resetTold wordOf judgedOf taggingOf argumentFault obeyed awaitedBy changeOf
 loser-waits = refl
 
 pub loser-reached : (won .card .link .state ≡ Stby) × (won .card .link .address ≡ 3)
-unfolding runOf next madeOf passwordMade lockMadeOf holding poweredOf stored registerRight lastByte crc7Of remainder divide bits entriesRight commandFrame sealed framingOf fieldsOf freshLink frameStepped frameJudged commandOf rowOf transferRow moveOf classOf takenOf actedOf afterChecks answered responseOf resetTold wordOf judgedOf taggingOf argumentFault obeyed awaitedBy changeOf
+unfolding runOf next madeOf passwordMade lockMadeOf holding poweredOf stored registerRight lastByte crc7Of remainder divide bits entriesRight commandFrame sealed framingOf fieldsOf freshLink frameStepped frameJudged heardOf commandOf rowOf transferRow moveOf classOf takenOf actedOf afterChecks answered responseOf resetTold wordOf judgedOf taggingOf argumentFault obeyed awaitedBy changeOf
 loser-reached = (refl, refl)
 
 pub refused-unmade : Made refusedMake → ⊥

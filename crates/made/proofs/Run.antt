@@ -10,6 +10,7 @@ use mathlib.Core.List.{List, [], _∷_}
 use Prim.Native.Nat.{ℕ}
 use lib.ListN.{length, length-set, length-replicate}
 use Rattle.card_blocks.specs.BlockIn.{storedBy, blockJudged}
+use Rattle.card_blocks.specs.Framing.{unstarted}
 use Rattle.card.specs.Frame.{changedBy, frameJudged}
 use Rattle.card.specs.Step.{lentAfter}
 use Rattle.card.specs.declared.Call.{Call}
@@ -44,8 +45,8 @@ stored-lengths block All lent =
     record { memory = length-replicate (length (lent .memory)) 0xFF; map = length-replicate (length (lent .map)) 0 }
 
 pub lent-lengths : (card : Card) (call : Call) (input : List ℕ) (lent : Lent) → SameLengths lent (lentAfter card call input lent)
-lent-lengths card (Frame wins) input lent = changed-lengths card (frameJudged card wins input (seen lent) .change) lent
-lent-lengths card BlockIn input lent = stored-lengths input (blockJudged card input (seen lent) .storing) lent
+lent-lengths card (Frame wins selected) input lent = changed-lengths card (frameJudged card wins selected input (seen lent) .change) lent
+lent-lengths card BlockIn input lent = stored-lengths (unstarted (card .mode .spi) input) (blockJudged card input (seen lent) .storing) lent
 lent-lengths card BlockOut input lent = record { memory = refl; map = refl }
 lent-lengths card WorkDone input lent = record { memory = refl; map = refl }
 lent-lengths card PowerOn input lent = record { memory = refl; map = refl }

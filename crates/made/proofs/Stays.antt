@@ -1,23 +1,23 @@
 -- A made card stays made.
 --   make-made       a make that is not refused gives a made card
 --   step-made       every call keeps a card made, whatever comes in and whatever is lent
---   command-made    so does every command that reaches a card on the bus, whether it would win the line or not
---   damage-made     and every damaged frame
+--   command-made    so does every command that reaches a card in MMC mode on the bus, whether it would win the line or not
+--   damage-made     and every damaged frame there
 --   whole-groups    an allowed size is one of whole protection groups
 -- Assumes nothing.
-use mathlib.Core.Path.{_≡_, refl, ap, _∙_}
-use mathlib.Core.Bool.{Bool, true, not}
+use mathlib.Core.Path.{_≡_, refl, ap, _∙_, subst, subst⁻¹}
+use mathlib.Core.Bool.{Bool, true, false, not}
 use mathlib.Core.List.{List}
 use Prim.Native.Nat.{ℕ, _/_}
 use native.Mathlib.Omega.{arith}
 use borrow.Author.Tests.{eqb-false, not-true}
 use lib.Dec.{eqb}
 use lib.ListN.{length}
-use Rattle.base.proofs.Cases.{guarded, clash}
+use Rattle.base.proofs.Cases.{guarded, clash, never, opposite}
 use Rattle.base.specs.Refusals.{by}
 use Rattle.base.specs.declared.Refusal.{Refusal}
 use Rattle.card.proofs.Outcomes.{FrameOutcome, unheard, damaged, commands, frame-outcome, told}
-use Rattle.card.specs.Frame.{FrameJudged, frameJudged, spares, sparedTold, frameStepped}
+use Rattle.card.specs.Frame.{FrameJudged, hearing, frameJudged, spares, sparedTold, frameStepped}
 use Rattle.card.specs.Step.{stepOf}
 use Rattle.card.specs.declared.Call.{Call}
 use Rattle.card.specs.declared.Call.the-variants.{Frame, BlockIn, BlockOut, WorkDone, PowerOn}
@@ -27,11 +27,17 @@ use Rattle.lock.specs.Passwords.{poweredOf, lockMade as lockMadeOf}
 use Rattle.lock.specs.declared.Making.the-variants.{Done as LockDone, Refused as LockRefused}
 use Rattle.lock.specs.declared.Making.{Making as LockMaking}
 use Rattle.lock.specs.declared.Lock.{Lock}
+use Rattle.moves.specs.Moves.{inState}
 use Rattle.moves.specs.Rows.{window}
+use Rattle.spi.specs.Hearing.{heardOf, damagedOf}
+use Rattle.spi.specs.declared.Heard.{Heard}
+use Rattle.spi_moves.specs.Moves.{five}
+use Rattle.states.specs.States.{columnOf}
 use Rattle.card_record.specs.Making.{failedMake, lockedBy, passwordMade, madeOf}
-use Rattle.card_record.specs.Power.{poweredOn, workedState, worked}
+use Rattle.card_record.specs.Power.{freshLink, mmcMode, poweredOn, workedState, worked}
 use Rattle.card_record.specs.Record.{sizeOf, withLink}
 use Rattle.card_record.specs.declared.Card.{Card}
+use Rattle.card_record.specs.declared.Link.{Link}
 use Rattle.card_record.specs.declared.Made.{Made as MadeOf}
 use Rattle.card_record.specs.declared.Making.the-variants.{Done}
 use Rattle.card_record.specs.declared.Registers.{Registers}
@@ -46,35 +52,48 @@ use Rattle.store.specs.Memory.{sizeAllowed}
 use Rattle.wire.specs.Responses.{registerRight}
 use Rattle.made.proofs.Blocks.{block-in-made, block-out-made}
 use Rattle.made.proofs.Commands.{link-made}
+use Rattle.made.proofs.InSpi.{MadeHeard, heard-made, damaged-heard-made}
 use Rattle.made.proofs.Links.{fresh-made, errors-made, damaged-made}
 use Rattle.made.proofs.Locks.{made-made, powered-made}
-use Rattle.made.proofs.Pending.{set-pending}
-use Rattle.made.specs.Made.{Waits, MadeRegisters, MadeLock, Made}
+use Rattle.made.proofs.Pending.{set-either}
+use Rattle.made.specs.Made.{Waits, MadeRegisters, MadeLock, MadeLink, MadeMode, Made}
 
--- ---- commands
-pub command-made : (card : Card) (wins : Bool) (index argument : ℕ) → Made card → Made (withLink card (commandOf (card .link) (metBy card wins) index argument .link))
-command-made card wins index argument made =
-    record {
-      registers = made .registers;
-      lock = made .lock;
-      link = link-made (card .link) (metBy card wins) index argument (made .link);
-    }
+-- ---- commands on a bus, which reach cards in MMC mode alone
+module _ (card : Card) (here : card .mode .spi ≡ false) (made : Made card) where
+  -- the card with another link that is made in MMC mode
+  relinked : (link : Link) → MadeLink false (card .registers .groups) (card .lock .locked) link → Made (withLink card link)
+  relinked link right =
+      record {
+        registers = made .registers;
+        lock = made .lock;
+        link = subst⁻¹ (λ (spi : Bool). MadeLink spi (card .registers .groups) (card .lock .locked) link) here right;
+        mode = record { checks = made .mode .checks; reached = λ s. opposite (card .mode .spi) s here };
+      }
 
-pub damage-made : (card : Card) → Made card → Made (withLink card (damagedLink (card .link)))
-damage-made card made =
-    record {
-      registers = made .registers;
-      lock = made .lock;
-      link = damaged-made (card .registers .groups) (card .lock .locked) (card .link) (made .link);
-    }
+  own : MadeLink false (card .registers .groups) (card .lock .locked) (card .link)
+  own = subst (λ (spi : Bool). MadeLink spi (card .registers .groups) (card .lock .locked) (card .link)) here (made .link)
+
+  pub command-made : (wins : Bool) (index argument : ℕ) → Made (withLink card (commandOf (card .link) (metBy card wins) index argument .link))
+  command-made wins index argument =
+      relinked (commandOf (card .link) (metBy card wins) index argument .link) (link-made (card .link) (metBy card wins) index argument own)
+
+  pub damage-made : Made (withLink card (damagedLink (card .link)))
+  damage-made = relinked (damagedLink (card .link)) (damaged-made (card .registers .groups) (card .lock .locked) (card .link) own)
 
 -- ---- frames
 module _ (card : Card) (made : Made card) where
-  judged-made : (wins : Bool) (frame : List ℕ) (seen : Seen) {judged : FrameJudged} → FrameOutcome card wins frame seen judged
+  heard-kept : (heard : Heard) → MadeHeard (card .registers .groups) (card .lock .locked) heard → Made (hearing card heard)
+  heard-kept heard right = record { registers = made .registers; lock = made .lock; link = right .link; mode = right .mode }
+
+  judged-made : (wins selected : Bool) (frame : List ℕ) (seen : Seen) {judged : FrameJudged} → FrameOutcome card wins selected frame seen judged
       → Made (judged .stepped .card)
-  judged-made wins frame seen (unheard n listed) = made
-  judged-made wins frame seen damaged = damage-made card made
-  judged-made wins frame seen (commands index argument is lent) = command-made card wins index argument made
+  judged-made wins selected frame seen (unheard n listed) = made
+  judged-made wins selected frame seen (damaged index argument is fails) =
+      heard-kept (damagedOf (card .mode) selected (card .link))
+      (damaged-heard-made (card .mode) (card .link) (metBy card wins) index argument (made .link) (made .mode) selected)
+  judged-made wins selected frame seen (commands index argument right is passes lent) =
+      heard-kept (heardOf (card .mode) selected (card .link) (metBy card wins) index argument)
+      (heard-made (card .mode) (card .link) (metBy card wins) index argument (made .link) (made .mode) selected)
 
   -- with bit 15, where an erase spared a sector
   spared-made : (stepped : Stepped) → Made (stepped .card) → Made (sparedTold stepped true .card)
@@ -83,16 +102,17 @@ module _ (card : Card) (made : Made card) where
       record {
         registers = m .registers;
         lock = m .lock;
-        link = errors-made (next .registers .groups) (next .lock .locked) (next .link) (withBit (next .link .errors) (errorBit 15)) (m .link)
-            (set-pending (next .link .errors) (errorBit 15) refl (m .link .errors));
+        link = errors-made (next .mode .spi) (next .registers .groups) (next .lock .locked) (next .link) (withBit (next .link .errors) (errorBit 15)) (m .link)
+            (set-either (next .mode .spi) (next .link .errors) (errorBit 15) refl refl (m .link .errors));
+        mode = m .mode;
       }
 
-  frame-made : (wins : Bool) (frame : List ℕ) (seen : Seen) → Made (frameStepped card wins frame seen .card)
+  frame-made : (wins selected : Bool) (frame : List ℕ) (seen : Seen) → Made (frameStepped card wins selected frame seen .card)
   unfolding frameStepped
-  frame-made wins frame seen =
-      let stepped : Stepped = frameJudged card wins frame seen .stepped in
-      let m : Made (stepped .card) = judged-made wins frame seen (frame-outcome card wins frame seen) in
-      told (λ (s : Stepped). Made (s .card)) stepped (spares card seen (frameJudged card wins frame seen .change)) (spared-made stepped m) m
+  frame-made wins selected frame seen =
+      let stepped : Stepped = frameJudged card wins selected frame seen .stepped in
+      let m : Made (stepped .card) = judged-made wins selected frame seen (frame-outcome card wins selected frame seen) in
+      told (λ (s : Stepped). Made (s .card)) stepped (spares card seen (frameJudged card wins selected frame seen .change)) (spared-made stepped m) m
 
 -- ---- work done and power-on
 worked-waits : (groups length : ℕ) (locked : Bool) (state : State) → Waits groups length locked state → Waits groups length locked (workedState state)
@@ -106,6 +126,19 @@ worked-waits groups length locked (Rcv incoming) w = w
 worked-waits groups length locked Prg w = tt
 worked-waits groups length locked Dis w = tt
 worked-waits groups length locked Ina w = tt
+
+-- in SPI prg goes to tran, and dis is not reached
+worked-five : (state : State) → inState (columnOf state) five ≡ true → inState (columnOf (workedState state)) five ≡ true
+worked-five Idle h = h
+worked-five Ready h = h
+worked-five Ident h = h
+worked-five Stby h = h
+worked-five Tran h = h
+worked-five (Data outgoing) h = h
+worked-five (Rcv incoming) h = h
+worked-five Prg h = refl
+worked-five Dis h = never h
+worked-five Ina h = h
 
 worked-made : (card : Card) → Made card → Made (worked card)
 unfolding worked
@@ -121,7 +154,12 @@ worked-made card made =
         work = worked-waits (card .registers .groups) (card .link .length) (card .lock .locked) (card .link .state) (made .link .work);
         errors = made .link .errors;
       };
+      mode = record { checks = made .mode .checks; reached = λ s. worked-five (card .link .state) (made .mode .reached s) };
     }
+
+-- a card that was not brought into SPI
+mmc-made : (state : State) → MadeMode mmcMode state
+mmc-made state = record { checks = λ c. never c; reached = λ s. never s }
 
 powered-on-made : (card : Card) → Made card → Made (poweredOn card)
 unfolding poweredOn
@@ -129,12 +167,13 @@ powered-on-made card made =
     record {
       registers = made .registers;
       lock = powered-made (card .lock) (made .lock);
-      link = fresh-made (card .registers .groups) (poweredOf (card .lock) .locked);
+      link = fresh-made false (card .registers .groups) (poweredOf (card .lock) .locked);
+      mode = mmc-made (freshLink .state);
     }
 
 -- ---- every call
 pub step-made : (card : Card) (call : Call) (input : List ℕ) (seen : Seen) (room : ℕ) → Made card → Made (stepOf card call input seen room .card)
-step-made card (Frame wins) input seen room made = frame-made card made wins input seen
+step-made card (Frame wins selected) input seen room made = frame-made card made wins selected input seen
 step-made card BlockIn input seen room made = block-in-made card made input seen
 step-made card BlockOut input seen room made = block-out-made card made seen room
 step-made card WorkDone input seen room made = worked-made card made
@@ -143,7 +182,7 @@ step-made card PowerOn input seen room made = powered-on-made card made
 -- ---- making
 module _ (registers : Registers) (right : MadeRegisters registers) where
   locked-by-made : (lock : Lock) (making : LockMaking) → MadeLock lock → lockedBy registers lock making .making ≡ Done → Made (lockedBy registers lock making .card)
-  locked-by-made lock LockDone m e = record { registers = right; lock = m; link = fresh-made (registers .groups) (lock .locked) }
+  locked-by-made lock LockDone m e = record { registers = right; lock = m; link = fresh-made false (registers .groups) (lock .locked); mode = mmc-made (freshLink .state) }
   locked-by-made lock (LockRefused refusal) m e = clash cc
 
   password-made : (password : List ℕ) → passwordMade registers password .making ≡ Done → Made (passwordMade registers password .card)

@@ -1,11 +1,11 @@
 -- What a taken command does to a made link, in any mode: what is the same for every command.
---   Meeting          a made link, what a command meets beside it, and the command's argument
+--   Meeting          a made link, what a command meets beside it, the command's argument, and whether the card is in SPI
 --   Acts             a command of an index leaves a made link, wherever a table of moves that is `Leading` takes it
 --   acting           so it does, if it does where the lock lets it through and its argument has no error
 --   begun, still, in-tran    the link of a command: with new work, with the old, with other tags in tran
 -- Assumes nothing.
 use mathlib.Core.Path.{_≡_, refl}
-use mathlib.Core.Bool.{true, false}
+use mathlib.Core.Bool.{Bool, true, false}
 use Prim.Native.Nat.{ℕ}
 use borrow.Author.Tests.{le-leb}
 use lib.Dec.{eqb}
@@ -36,11 +36,12 @@ pub record Meeting : Type 0 where
   pub link : Link
   pub met : Met
   pub argument : ℕ
-  pub made : MadeLink (met .groups) (met .locked) link
+  pub spi : Bool
+  pub made : MadeLink spi (met .groups) (met .locked) link
 
 -- a link that is made at the card of a meeting
 abbrev pub Right : Meeting → Link → Type 0
-Right c link = MadeLink (c .met .groups) (c .met .locked) link
+Right c link = MadeLink (c .spi) (c .met .groups) (c .met .locked) link
 
 -- a command's tags and its error at the meeting, and the link after it where it has none
 abbrev pub tagging : Meeting → ℕ → Tagging

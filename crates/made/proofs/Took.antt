@@ -5,7 +5,8 @@
 --   acted-took      what a taken command does is one of these, in any mode
 --   answered-took   and so it is with other error bits
 --   took            each command of MMC mode is one of these
---   took-nothing    one that sets no group, clears none and erases nothing changes nothing that is lent
+--   heard-took      and so is each command that a card hears, in either mode
+--   took-nothing, heard-nothing    one that sets no group, clears none and erases nothing changes nothing that is lent
 -- Assumes nothing.
 use mathlib.Core.Path.{_≡_, refl}
 use mathlib.Core.Bool.{Bool, true, false}
@@ -30,6 +31,11 @@ use Rattle.moves.specs.declared.Row.{Row}
 use Rattle.card_record.specs.Power.{freshLink}
 use Rattle.card_record.specs.Record.{sizeOf, withErrors, withTags}
 use Rattle.card_record.specs.declared.Link.{Link}
+use Rattle.card_record.specs.declared.Mode.{Mode}
+use Rattle.spi.specs.Answers.{answeredIn, faulted}
+use Rattle.spi.specs.Hearing.{unheard, takenIn, movedIn, spiHeard, asSpi, heardOf}
+use Rattle.spi.specs.declared.Heard.{Heard}
+use Rattle.spi_moves.specs.Moves.{rowOf as rowInSpi, moveOf as moveInSpi}
 use Rattle.states.specs.States.{columnOf}
 use Rattle.states.specs.declared.Column.{Column}
 use Rattle.status.specs.ErrorBits.{errorBit}
@@ -93,6 +99,26 @@ module _ (link : Link) (met : Met) (index argument : ℕ) where
       let row : Row = rowOf (receivedOf link met index argument) in
       moves row (moveOf row (columnOf (link .state)))
 
+  -- ---- SPI, and either mode
+  abbrev Hears : Heard → Type 0
+  Hears heard = Took (heard .link) (heard .change)
+
+  unheard-took : (mode : Mode) → Hears (unheard mode link)
+  unheard-took mode = stopped (link .tags) (link .errors)
+
+  moved-took : (mode : Mode) (move : Move) → Hears (movedIn mode link met index argument move)
+  unfolding faulted answeredIn takenIn
+  moved-took mode Ignored = unheard-took mode
+  moved-took mode Silent = unheard-took mode
+  moved-took mode Illegal = stopped (link .tags) _
+  moved-took mode (To column) = answered-took _ (acted-took column)
+
+  pub heard-took : (mode : Mode) (selected : Bool) → Hears (heardOf mode selected link met index argument)
+  unfolding heardOf spiHeard
+  heard-took mode selected =
+      picked Hears (asSpi mode selected index) (λ t. moved-took mode (moveInSpi (rowInSpi index) (columnOf (link .state))))
+      (λ t. picked Hears (mode .spi) (λ u. unheard-took mode) (λ u. took))
+
   nothing : changeOf index argument ≡ Nothing → {next : Link} {change : Change} → Took next change → change ≡ Nothing
   nothing none (stopped tags errors) = refl
   nothing none (reset errors i) = refl
@@ -100,3 +126,6 @@ module _ (link : Link) (met : Met) (index argument : ℕ) where
 
   pub took-nothing : changeOf index argument ≡ Nothing → commandOf link met index argument .change ≡ Nothing
   took-nothing none = nothing none took
+
+  pub heard-nothing : changeOf index argument ≡ Nothing → (mode : Mode) (selected : Bool) → heardOf mode selected link met index argument .change ≡ Nothing
+  heard-nothing none mode selected = nothing none (heard-took mode selected)

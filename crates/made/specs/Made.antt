@@ -9,15 +9,19 @@ use lib.Bits.{bitAnd}
 use lib.ListN.{length, take, replicate}
 use Rattle.base.specs.Sizes.{sectorSize}
 use Rattle.lock.specs.declared.Lock.{Lock}
+use Rattle.moves.specs.Moves.{inState}
 use Rattle.moves.specs.Rows.{window}
+use Rattle.spi_moves.specs.Moves.{five}
+use Rattle.states.specs.States.{columnOf}
 use Rattle.card_record.specs.Record.{sizeOf, crosses}
 use Rattle.card_record.specs.declared.Card.{Card}
 use Rattle.card_record.specs.declared.Link.{Link}
+use Rattle.card_record.specs.declared.Mode.{Mode}
 use Rattle.card_record.specs.declared.Registers.{Registers}
 use Rattle.states.specs.declared.Incoming.{Incoming}
 use Rattle.states.specs.declared.Incoming.the-variants.{One as OneIn, Many as ManyIn, LockRequest}
 use Rattle.states.specs.declared.Outgoing.{Outgoing}
-use Rattle.states.specs.declared.Outgoing.the-variants.{One as OneOut, Many as ManyOut, Protection}
+use Rattle.states.specs.declared.Outgoing.the-variants.{One as OneOut, Many as ManyOut, Protection, Csd, Cid}
 use Rattle.states.specs.declared.State.{State}
 use Rattle.states.specs.declared.State.the-variants.{Idle, Ready, Ident, Stby, Tran, Data, Rcv, Prg, Dis, Ina}
 use Rattle.status.specs.ErrorBits.{errorBit, wordWith}
@@ -48,11 +52,13 @@ pub record MadeLock (lock : Lock) : Type 0 where
   pub locked : lock .locked ≡ true → 1 ≤ lock .length
 
 -- what a card in data is to send. CMD17: no "block past the end", none "crossing a multiple of 2,048"; CMD18 "moves on by one block", at most
--- to the end; CMD30: the addressed group is one of the card's. "Locked: only class 0 and CMD42 go on"
+-- to the end; CMD30: the addressed group is one of the card's; in SPI a register, of a locked card too. "Locked: only class 0 and CMD42 go on"
 abbrev pub Sends : ℕ → ℕ → Bool → Outgoing → Type 0
 Sends groups length locked (OneOut at) = (locked ≡ false) × ((at + length ≤ sizeOf groups) × (crosses at length ≡ false))
 Sends groups length locked (ManyOut at) = (locked ≡ false) × (at ≤ sizeOf groups)
 Sends groups length locked (Protection group) = (locked ≡ false) × (group < groups)
+Sends groups length locked Csd = Unit {0}
+Sends groups length locked Cid = Unit {0}
 
 -- what a card in rcv awaits. "CMD24, 25: length must be 512 .., then in range .., then aligned to 512"; CMD25 "moves on 512", at most to the end
 abbrev pub Awaits : ℕ → ℕ → Bool → Incoming → Type 0
@@ -73,15 +79,17 @@ Waits groups length locked Prg = Unit {0}
 Waits groups length locked Dis = Unit {0}
 Waits groups length locked Ina = Unit {0}
 
--- the error bits that can wait for the next R1: 28 and 27 never do, since the R1 of the command that sets them shows and clears them
-abbrev pub pendingBits : List ErrorBit
-pendingBits =
+-- the error bits that can wait for the next answer, in SPI (true) and in MMC mode. In MMC mode 28 and 27 never do, since the R1 of the command
+-- that sets them shows and clears them; in SPI R1 shows 28 and not 27, and each answer clears 23, 22 and 13
+abbrev pub pendingBits : Bool → List ErrorBit
+pendingBits true = errorBit 31 ∷ errorBit 30 ∷ errorBit 29 ∷ errorBit 27 ∷ errorBit 26 ∷ errorBit 24 ∷ errorBit 15 ∷ []
+pendingBits false =
     errorBit 31 ∷ errorBit 30 ∷ errorBit 29 ∷ errorBit 26 ∷ errorBit 24 ∷ errorBit 23 ∷ errorBit 22 ∷ errorBit 15 ∷ errorBit 13 ∷ []
 
-abbrev pub Pending : Errors → Type 0
-Pending errors = bitAnd (errors .bits) (wordWith pendingBits) ≡ errors .bits
+abbrev pub Pending : Bool → Errors → Type 0
+Pending spi errors = bitAnd (errors .bits) (wordWith (pendingBits spi)) ≡ errors .bits
 
-pub record MadeLink (groups : ℕ) (locked : Bool) (link : Link) : Type 0 where
+pub record MadeLink (spi : Bool) (groups : ℕ) (locked : Bool) (link : Link) : Type 0 where
   -- 3: "address taken; address 0: bit 31, stays"
   pub address : 1 ≤ link .address
   -- "CMD16: length 1 to 2,048"
@@ -90,9 +98,15 @@ pub record MadeLink (groups : ℕ) (locked : Bool) (link : Link) : Type 0 where
   pub tags : MadeTags (sizeOf groups) (link .tags)
   pub tagged : anyOf (link .tags) ≡ true → (link .state ≡ Tran) × (locked ≡ false)
   pub work : Waits groups (link .length) locked (link .state)
-  pub errors : Pending (link .errors)
+  pub errors : Pending spi (link .errors)
+
+-- CRC checking is a matter of SPI alone; and in SPI a card is in idle, tran, data, rcv or prg: no command leads to another state there
+pub record MadeMode (mode : Mode) (state : State) : Type 0 where
+  pub checks : mode .checks ≡ true → mode .spi ≡ true
+  pub reached : mode .spi ≡ true → inState (columnOf state) five ≡ true
 
 pub record Made (card : Card) : Type 0 where
   pub registers : MadeRegisters (card .registers)
   pub lock : MadeLock (card .lock)
-  pub link : MadeLink (card .registers .groups) (card .lock .locked) (card .link)
+  pub link : MadeLink (card .mode .spi) (card .registers .groups) (card .lock .locked) (card .link)
+  pub mode : MadeMode (card .mode) (card .link .state)

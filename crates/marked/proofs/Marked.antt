@@ -1,5 +1,5 @@
 -- The marked examples hold of our reader, our card, our sum and our `busline`, over the definitions that the contracts name, and not of wrong ones.
---   marked-hold    of ours: antt computes each
+--   marked-hold    of ours, whatever the card's select line, which a card in MMC mode reads for CMD0 alone: antt computes each
 --   refusing       not of a reader that refuses every frame
 --   accepting      not of a reader that does not look at the CRC7
 --   silent-card    not of a card that refuses all frames, and so sends nothing
@@ -8,7 +8,7 @@
 --   mute           not of a program that prints nothing
 -- Assumes nothing.
 use mathlib.Core.Path.{_≡_, refl, sym, ap, _∙_}
-use mathlib.Core.Bool.{true}
+use mathlib.Core.Bool.{Bool, true, false}
 use mathlib.Core.List.{List, [], _∷_}
 use Prim.Native.Nat.{ℕ, _+_, _*_, _/_, _%_}
 use native.Mathlib.Omega.{arith}
@@ -30,6 +30,7 @@ use Rattle.moves.specs.Moves.{moveOf}
 use Rattle.moves.specs.Rows.{transferRow, rowOf}
 use Rattle.card_record.specs.Power.{freshLink}
 use Rattle.card_record.specs.declared.Card.{Card}
+use Rattle.spi.specs.Hearing.{heardOf}
 use Rattle.status.specs.Status.{wordOf}
 use Rattle.store.specs.Lent.{seenOf}
 use Rattle.store.specs.Map.{entriesRight}
@@ -42,13 +43,14 @@ use Rattle.wire.specs.declared.Framing.the-variants.{Framed, Unframed}
 use Rattle.marked.proofs.Transcript.{eight-lines}
 use Rattle.marked.specs.Marked.{cardIn, all, marked}
 
--- what our card puts on the line for a frame, lent a memory of 8,192 bytes and its map
-abbrev pub ours : Card → List ℕ → List ℕ
-ours card frame = sentBytes (card .registers) (cardFrameOf card true frame (seenOf 8192 (0 ∷ [])) .reply .sent)
+-- what our card puts on the line for a frame, its select line being low (`selected`) or high, lent a memory of 8,192 bytes and its map
+abbrev pub ours : Bool → Card → List ℕ → List ℕ
+ours selected card frame = sentBytes (card .registers) (cardFrameOf card true selected frame (seenOf 8192 (0 ∷ [])) .reply .sent)
 
-pub marked-hold : all frameOf ours crc16 transcript marked
-unfolding cardIn holding freshLink cardFrameOf frameJudged entriesRight commandOf takenOf actedOf afterChecks judgedOf taggingOf argumentFault resetTold obeyed awaitedBy changeOf responseOf answered wordOf classOf moveOf rowOf transferRow sentBytes r1Frame sealed frameOf framingOf fieldsOf crc7Of crc16 checkSum remainder divide bits
-marked-hold = (refl, (refl, (refl, (refl, (refl, (refl, (refl, (refl, (eight-lines, tt)))))))))
+pub marked-hold : (selected : Bool) → all frameOf (ours selected) crc16 transcript marked
+unfolding cardIn holding freshLink cardFrameOf frameJudged entriesRight heardOf commandOf takenOf actedOf afterChecks judgedOf taggingOf argumentFault resetTold obeyed awaitedBy changeOf responseOf answered wordOf classOf moveOf rowOf transferRow sentBytes r1Frame sealed frameOf framingOf fieldsOf crc7Of crc16 checkSum remainder divide bits
+marked-hold true = (refl, (refl, (refl, (refl, (refl, (refl, (refl, (refl, (eight-lines, tt)))))))))
+marked-hold false = (refl, (refl, (refl, (refl, (refl, (refl, (refl, (refl, (eight-lines, tt)))))))))
 
 pub refusing : (reply : Card → List ℕ → List ℕ) (sum : List ℕ → ℕ) (play : List ℕ → List ℕ) (n : ℕ) → all (λ f. Refused (refusalOf n)) reply sum play marked → ⊥
 refusing reply sum play n h = let e = h .0 in clash cc

@@ -1,7 +1,7 @@
 -- Document 01's eight output lines, computed from the definitions that the contracts of `busline_records` name.
 -- Assumes nothing.
 use mathlib.Core.Path.{_≡_, refl}
-use Rattle.bus.specs.Bus.{withCards, emptyBus, addedTo, commandAt, cardAfter, frameFrom, anyReady, longestOf, cidLine, andLine, lineOf, padded, commandFor, busFrame}
+use Rattle.bus.specs.Bus.{withCards, emptyBus, addedTo, commandOn, commandAt, cardAfter, frameFrom, anyReady, longestOf, cidLine, andLine, lineOf, padded, commandFor, busFrame}
 use Rattle.card_record.specs.Sending.{sentBytes}
 use Rattle.command.specs.Answers.{responseOf, answered}
 use Rattle.command.specs.Arguments.{argumentFault}
@@ -31,5 +31,5 @@ use Rattle.wire.specs.Responses.{r1Frame, r2Frame, r3Frame, lastByte, registerR
 use Rattle.marked.specs.Marked.{night, eightLines}
 
 pub eight-lines : transcript night ≡ eightLines
-unfolding transcript playedOf playedIn recordStep askedText askedSaid askedOf freshProgress cardText cardSaid frameText frameSaid shownText registerOf madeWith cardMade emptyBus refusedMake addedTo withCards commandAt cardAfter frameFrom anyReady longestOf cidLine andLine lineOf padded commandFor busFrame line contested wins together madeOf passwordMade lockMadeOf poweredOf stored holding entriesRight freshLink commandOf takenOf actedOf afterChecks judgedOf taggingOf argumentFault resetTold obeyed awaitedBy changeOf responseOf answered wordOf classOf moveOf rowOf transferRow sentBytes r1Frame r2Frame r3Frame sealed framingOf fieldsOf crc7Of lastByte registerRight remainder divide bits numberText hexText endText headText wordLine plainLine namedLine hexOf digitsOf decimalOf
+unfolding transcript playedOf playedIn recordStep askedText askedSaid askedOf freshProgress cardText cardSaid frameText frameSaid shownText registerOf madeWith cardMade emptyBus refusedMake addedTo withCards commandOn commandAt cardAfter frameFrom anyReady longestOf cidLine andLine lineOf padded commandFor busFrame line contested wins together madeOf passwordMade lockMadeOf poweredOf stored holding entriesRight freshLink commandOf takenOf actedOf afterChecks judgedOf taggingOf argumentFault resetTold obeyed awaitedBy changeOf responseOf answered wordOf classOf moveOf rowOf transferRow sentBytes r1Frame r2Frame r3Frame sealed framingOf fieldsOf crc7Of lastByte registerRight remainder divide bits numberText hexText endText headText wordLine plainLine namedLine hexOf digitsOf decimalOf
 eight-lines = refl

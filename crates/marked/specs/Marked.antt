@@ -8,7 +8,7 @@ use lib.ListN.{replicate}
 use Rattle.base.specs.Refusals.{by}
 use Rattle.text.specs.Words.{ascii}
 use Rattle.lock.specs.Passwords.{noPassword}
-use Rattle.card_record.specs.Power.{freshLink}
+use Rattle.card_record.specs.Power.{freshLink, mmcMode}
 use Rattle.card_record.specs.Record.{withState}
 use Rattle.card_record.specs.declared.Card.{Card}
 use Rattle.states.specs.declared.State.{State}
@@ -33,6 +33,7 @@ cardIn state =
       registers = record { cid = replicate 15 0 ++ (1 ∷ []); csd = replicate 15 0 ++ (1 ∷ []); ocr = 0x00FF8000; groups = 1 };
       lock = noPassword;
       link = withState freshLink state;
+      mode = mmcMode;
     }
 
 -- the records of a script: a card's 15 CID bytes, and a frame

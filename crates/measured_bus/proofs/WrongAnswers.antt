@@ -11,7 +11,7 @@ use mathlib.Core.Path.{_≡_}
 use mathlib.Core.List.{[]}
 use native.Mathlib.Omega.{arith}
 use lib.ListN.{getD, replicate}
-use Rattle.bus.specs.Bus.{withCards, emptyBus, addedTo, commandAt, cardAfter, frameFrom, anyReady, longestOf, cidLine, andLine, lineOf, padded, commandFor, busFrame}
+use Rattle.bus.specs.Bus.{withCards, emptyBus, addedTo, commandOn, commandAt, cardAfter, frameFrom, anyReady, longestOf, cidLine, andLine, lineOf, padded, commandFor, busFrame}
 use Rattle.bus.specs.declared.Bus.{Bus}
 use Rattle.bus.specs.declared.Shown.the-variants.{Line, Silent}
 use Rattle.card_record.specs.Sending.{sentBytes}
@@ -52,9 +52,9 @@ abbrev clones : Bus
 clones = busOf (replicate 480 0) 2
 
 clones-counted : answeredIn clones 2 ≡ 2 → ⊥
-unfolding answeredIn afterRounds busOf addedTo emptyBus readyCard cidAt freshLink refusedMake holding commandFrame sealed crc7Of remainder divide bits busFrame framingOf fieldsOf commandFor withCards lineOf cidLine andLine frameFrom anyReady longestOf sentBytes r1Frame r2Frame cardAfter commandAt commandOf takenOf actedOf afterChecks judgedOf taggingOf argumentFault resetTold obeyed awaitedBy changeOf responseOf answered wordOf classOf moveOf rowOf transferRow line contested wins together padded
+unfolding answeredIn afterRounds busOf addedTo emptyBus readyCard cidAt freshLink refusedMake holding commandFrame sealed crc7Of remainder divide bits busFrame framingOf fieldsOf commandFor withCards lineOf cidLine andLine frameFrom anyReady longestOf sentBytes r1Frame r2Frame cardAfter commandAt commandOn commandOf takenOf actedOf afterChecks judgedOf taggingOf argumentFault resetTold obeyed awaitedBy changeOf responseOf answered wordOf classOf moveOf rowOf transferRow line contested wins together padded
 clones-counted e = omega arith
 
 clones-apart : getD (addressesOf (afterRounds clones 2)) 1 0 ≡ 2 → ⊥
-unfolding afterRounds busOf addedTo emptyBus readyCard cidAt freshLink refusedMake holding commandFrame sealed crc7Of remainder divide bits busFrame framingOf fieldsOf commandFor withCards cardAfter commandAt commandOf takenOf actedOf afterChecks judgedOf taggingOf argumentFault obeyed awaitedBy responseOf answered classOf moveOf rowOf line contested wins together
+unfolding afterRounds busOf addedTo emptyBus readyCard cidAt freshLink refusedMake holding commandFrame sealed crc7Of remainder divide bits busFrame framingOf fieldsOf commandFor withCards cardAfter commandAt commandOn commandOf takenOf actedOf afterChecks judgedOf taggingOf argumentFault obeyed awaitedBy responseOf answered classOf moveOf rowOf line contested wins together
 clones-apart e = omega arith

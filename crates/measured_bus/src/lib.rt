@@ -45,6 +45,7 @@ fn ready_card(cid: [u8; 16]) -> Card
             state: State::Ready,
             ..link
         },
+        mode: card_record::mmc_mode(),
     }
 }
 

@@ -88,7 +88,7 @@ pub fn class_of(index: u8) -> Class
     ensures answer { λ r. ⌜ r ≡ classOf index ⌝ }
 {
     match index {
-        0..=4 | 7 | 9..=10 | 12..=13 | 15 => Class::Basic,
+        0..=4 | 7 | 9..=10 | 12..=13 | 15 | 58..=59 => Class::Basic,
         16..=18 => Class::BlockRead,
         24..=25 => Class::BlockWrite,
         28..=30 => Class::WriteProtection,

@@ -1,15 +1,17 @@
 -- Demand 3 holds of our bus.
---   demand3     for every bus of 1 to 30 cards of any records, none in Identification, and any list of undamaged rounds
+--   demand3     for every bus of 1 to 30 cards of any records, in either mode, none in Identification in MMC mode, and any list of undamaged rounds
 -- Assumes nothing.
 use mathlib.Core.Path.{_≡_, refl, sym, ap, _∙_, subst}
-use mathlib.Core.Bool.{true, false}
+use mathlib.Core.Bool.{Bool, true, false, not, _&&_}
 use mathlib.Core.List.{List, [], _∷_, _++_, map, List·Memᴰ, List·Memᴰ·head, List·Memᴰ·tail, List·Memᴰ·not-nil, append-nil}
 use mathlib.Core.Logic.{_↔_}
 use Prim.Native.Nat.{ℕ, zero, suc, _-_, _≤_, _<_}
 use native.Mathlib.Omega.{arith}
+use borrow.Author.Tests.{ltb-true, ltb-false}
+use lib.Dec.{eqb, ltb}
 use lib.ListN.{length, take, drop, getD, replicate, drop-of-length-le}
 use lib.Seq.{length-take-le, drop-cons, getD-take}
-use Rattle.base.proofs.Cases.{cases}
+use Rattle.base.proofs.Cases.{cases, never}
 use Rattle.bus.specs.Bus.{countOf, cardsOf, withCards, isReady, cidLine, shownOf, padded, busFrame}
 use Rattle.bus.specs.declared.Bus.{Bus}
 use Rattle.bus.specs.declared.Framed.{Framed as Answered}
@@ -18,11 +20,12 @@ use Rattle.crc.proofs.Bits.{length-octets}
 use Rattle.crc.specs.Bits.{bitsOf}
 use Rattle.card_record.specs.Making.{refusedMake}
 use Rattle.card_record.specs.declared.Card.{Card}
+use Rattle.states.specs.States.{columnOf, columnNumber}
 use Rattle.rounds.proofs.Distinct.{distinct-ascending, distinct-from, rank-get, get-rank, rank-lt}
 use Rattle.rounds.proofs.ManyRounds.{rounds-are, good-after, ids-after}
 use Rattle.rounds.proofs.OnTheBus.{Filled, cards-length, cid-frame, after, before-is, before-cards, before-filled, before-rest}
 use Rattle.rounds.proofs.OneRound.{Good, good, good-card, cid-back, among, shows-first, shows-none}
-use Rattle.rounds.proofs.Reach.{map-on, final, reach-now, reach-not, reach-yet, ready-from}
+use Rattle.rounds.proofs.Reach.{map-on, final, reach-now, reach-not, reach-yet, final-none, ready-from}
 use Rattle.rounds.specs.Demand3.{Round, AllUndamaged, Undamaged, roundAt, addressAt, before, answer, cardAt, identifier, cidOf, readyIdentifiers, identifiers, nth, reached, Holds, CidBytes, WellFormed, isIdent, NoneIdentified, Rounds, Demand3}
 use Rattle.rounds.specs.Distinct.{distinct, rank, Ascending}
 
@@ -31,6 +34,11 @@ pub getD-map : (f : Card → Card) (l : List Card) (i : ℕ) (d : Card) → i < 
 getD-map f [] i d h = absurd (omega arith)
 getD-map f (c ∷ l) zero d h = refl
 getD-map f (c ∷ l) (suc i) d h = getD-map f l i d (omega arith)
+
+past : (l : List Card) (i : ℕ) (d : Card) → length l ≤ i → getD l i d ≡ d
+past [] i d h = refl
+past (c ∷ l) zero d h = absurd (omega arith)
+past (c ∷ l) (suc i) d h = past l i d (omega arith)
 
 pub in-place : (l : List Card) (i : ℕ) (d : Card) → i < length l → List·Memᴰ (getD l i d) l
 in-place [] i d h = absurd (omega arith)
@@ -114,6 +122,20 @@ module _ (bus : Bus) (rounds : List Round) (formed : WellFormed bus) (some : 1 �
       (before-cards bus filled rounds u k ∙ rounds-are (take k rounds) cards good-cards)
       ∙ getD-map (final (take k rounds) ids) cards place refusedMake (omega arith)
 
+  -- a card in SPI: none stands where no place is taken
+  unturned : (place k : ℕ) → cardAt bus place .mode .spi ≡ true → cardAt (before busFrame bus rounds k) place ≡ cardAt bus place
+  unfolding refusedMake
+  unturned place k spi =
+      let e = count in
+      cases (ltb place (countOf bus))
+      (λ t.
+      card-left k place (ltb-true place (countOf bus) t)
+      ∙ final-none (take k rounds) ids (cardAt bus place)
+      (ap (λ (s : Bool). not s && eqb (columnNumber (columnOf (cardAt bus place .link .state))) 1) spi))
+      (λ t.
+      let behind = ltb-false place (countOf bus) t in
+      never (sym (ap (λ (c : Card). c .mode .spi) (past cards place refusedMake (omega arith))) ∙ spi))
+
   -- a card whose turn it is, and one whose turn it is not
   now : (k : ℕ) → k < length rounds → (card : Card) → isReady card ≡ true → rank ids (identifier card) ≡ k
       → final (take (suc k) rounds) ids card ≡ reached (addressAt rounds k) card
@@ -195,6 +217,7 @@ module _ (bus : Bus) (rounds : List Round) (formed : WellFormed bus) (some : 1 �
           card-left (suc j) place i ∙ now j h (cardAt bus place) p e,
         );
         last = λ k h b. (silent-at k h b, same-after k b);
+        spi = unturned;
         places = λ k. before-rest bus filled rounds u k;
       }
 

@@ -6,7 +6,7 @@
 --   taken-made     a card that is taken out of its place is made
 -- Assumes nothing.
 use mathlib.Core.Path.{_≡_, refl, sym, ap, subst}
-use mathlib.Core.Bool.{true}
+use mathlib.Core.Bool.{true, false}
 use mathlib.Core.Logic.{_⊎_, inl, inr, ⊎-elim}
 use mathlib.Core.List.{List, [], _∷_, _++_, map, List·Memᴰ, List·Memᴰ·head, List·Memᴰ·tail, List·Memᴰ·not-nil, List·Memᴰ·cases-cons, Memᴰ·of-map}
 use Prim.Native.Nat.{ℕ, zero, suc, min}
@@ -15,16 +15,19 @@ use borrow.Author.Tests.{ltb-true}
 use lib.Dec.{leb, ltb}
 use lib.ListN.{length, take, drop, getD, set}
 use lib.Seq.{length-take-le, getD-take}
+use Rattle.bus.proofs.InSpi.{spi-stays, mmc-heard}
 use Rattle.bus.specs.Bus.{most, countOf, cardsOf, withCards, emptyBus, addedTo, takenFrom, putInto, winsLine, commandAt, cardAfter, busIndices, damagedCard, commandFor, framedOn, busFrame}
 use Rattle.bus.specs.declared.Added.{Added}
 use Rattle.bus.specs.declared.Bus.{Bus}
 use Rattle.bus.specs.declared.Framed.{Framed as Answered}
 use Rattle.bus.specs.declared.Taken.{Taken}
+use Rattle.command.specs.declared.Commanded.{Commanded}
 use Rattle.made.proofs.Stays.{command-made, damage-made}
-use Rattle.base.proofs.Cases.{never, guarded}
+use Rattle.base.proofs.Cases.{cases, picked, never, guarded}
 use Rattle.made.specs.Made.{Made}
 use Rattle.moves.specs.Indices.{among}
 use Rattle.card_record.specs.Making.{refusedMake}
+use Rattle.card_record.specs.Record.{withLink}
 use Rattle.card_record.specs.declared.Card.{Card}
 use Rattle.wire.specs.Frames.{framingOf}
 use Rattle.wire.specs.declared.Framing.{Framing}
@@ -61,22 +64,33 @@ each-made f keeps bus made card m =
     let w = Memᴰ·of-map f (cardsOf bus) (subst (List·Memᴰ card) (changed f (countOf bus) (bus .cards)) m) in
     subst Made (w .2) (keeps (w .0) (made (w .0) (w .1)))
 
+-- a command at one card, which one in SPI does not hear, and a damaged frame
+commanded-card : (cards : List Card) (index argument : ℕ) (card : Card) → Made card → Made (cardAfter cards index argument card)
+unfolding cardAfter commandAt
+commanded-card cards index argument card m =
+    cases (card .mode .spi)
+    (λ (s : card .mode .spi ≡ true). subst Made (sym (spi-stays card s cards index argument .0)) m)
+    (λ (s : card .mode .spi ≡ false).
+    subst (λ (g : Commanded). Made (withLink card (g .link))) (sym (mmc-heard card (winsLine cards card) index argument s))
+    (command-made card s m (winsLine cards card) index argument))
+
+damaged-card : (card : Card) → Made card → Made (damagedCard card)
+damaged-card card m = picked Made (card .mode .spi) (λ s. m) (λ s. damage-made card s m)
+
 module _ (bus : Bus) (made : MadeBus bus) where
   abbrev Keeps : Answered → Type 0
   Keeps answered = MadeBus (answered .bus)
 
   commanded-made : (index argument : ℕ) → Keeps (commandFor bus index argument)
-  unfolding commandFor cardAfter commandAt
+  unfolding commandFor
   commanded-made index argument =
       guarded Keeps (among index busIndices) (λ e. made)
-      (λ e.
-      each-made (cardAfter (cardsOf bus) index argument)
-      (λ card m. command-made card (winsLine (cardsOf bus) card) index argument m) bus made)
+      (λ e. each-made (cardAfter (cardsOf bus) index argument) (commanded-card (cardsOf bus) index argument) bus made)
 
   framed-made : (framing : Framing) → Keeps (framedOn bus framing)
   framed-made (Unframed refusal) = made
   framed-made (Framed index argument right) =
-      guarded Keeps right (λ e. each-made damagedCard (λ card m. damage-made card m) bus made) (λ e. commanded-made index argument)
+      guarded Keeps right (λ e. each-made damagedCard damaged-card bus made) (λ e. commanded-made index argument)
 
   pub bus-made : (frame : List ℕ) → MadeBus (busFrame bus frame .bus)
   unfolding busFrame

@@ -7,7 +7,7 @@
 --   cid-back         the 16 bytes of a card's identifier are its CID
 -- Assumes nothing.
 use mathlib.Core.Path.{_≡_, refl, sym, ap, _∙_, subst}
-use mathlib.Core.Bool.{Bool, true, false, _&&_, false≢true}
+use mathlib.Core.Bool.{Bool, true, false, not, _&&_, false≢true}
 use mathlib.Core.List.{List, [], _∷_, map, List·Memᴰ, List·Memᴰ·head, List·Memᴰ·tail, List·Memᴰ·not-nil, Memᴰ·map, Memᴰ·of-map, map-map}
 use Prim.Native.Nat.{ℕ, suc, _/_, _≤_, _<_}
 use native.Mathlib.Omega.{arith}
@@ -16,7 +16,9 @@ use lib.Dec.{eqb}
 use lib.ListN.{length, getD}
 use Rattle.base.proofs.Cases.{cases}
 use Rattle.base.specs.Choice.{pick}
+use Rattle.bus.proofs.InSpi.{spi-stays, spi-loses, mmc-heard}
 use Rattle.bus.specs.Bus.{isReady, cidSender, cidBits, winsLine, commandAt, cardAfter, anyReady, cidLine}
+use Rattle.command.specs.declared.Commanded.{Commanded}
 use Rattle.crc.proofs.Bits.{length-bits, bits-below, bitsOf-spelt, octets-bits}
 use Rattle.crc.specs.Bits.{bitsOf, bits, spelt, octets, Below}
 use Rattle.shared_line.proofs.Arbitration.{and-left, and-right, Bitwise, bitwise, winners, line-is-smallest, contested-length, contested-below}
@@ -24,9 +26,10 @@ use Rattle.shared_line.specs.Line.{Sender, contested}
 use Rattle.card_record.specs.Record.{withLink}
 use Rattle.card_record.specs.declared.Card.{Card}
 use Rattle.card_record.specs.declared.Link.{Link}
+use Rattle.states.specs.States.{columnOf, columnNumber}
 use Rattle.rounds.proofs.Commands.{identified, cid-sent, address-taken}
 use Rattle.rounds.proofs.Distinct.{distinct-ascending, distinct-has, distinct-from, first-under}
-use Rattle.rounds.proofs.Reach.{map-on, map-id, one, roundBy, ready-member, ready-from}
+use Rattle.rounds.proofs.Reach.{never-both, map-on, map-id, one, roundBy, ready-member, ready-from, ready-mmc}
 use Rattle.rounds.specs.Demand3.{identifier, cidOf, readyIdentifiers, stood, reached, CidBytes, isIdent}
 use Rattle.rounds.specs.Distinct.{distinct, Ascending}
 
@@ -50,7 +53,7 @@ unfolding Good one
 keeps m a cards g card k =
     let w = Memᴰ·of-map (one m a) cards k in
     let h = g (w .0) (w .1) in
-    subst GoodCard (w .2) (cases (isReady (w .0) && eqb (identifier (w .0)) m) (λ q. rw q (refl, h .1)) (λ q. rw q h))
+    subst GoodCard (w .2) (cases (isReady (w .0) && eqb (identifier (w .0)) m) (λ q. rw q (never-both (not (w .0 .mode .spi)), h .1)) (λ q. rw q h))
 
 -- ---- a CID and its number
 bytes-below : (l : List ℕ) → ((i : ℕ) → getD l i 0 < 256) → Below 256 l
@@ -87,16 +90,32 @@ afterAddress a card = pick (isIdent card) (reached a card) card
 cid-card : (cards : List Card) (argument : ℕ) (card : Card) → cardAfter cards 2 argument card ≡ afterCid cards card
 unfolding cardAfter commandAt
 cid-card cards argument card =
-    ap (withLink card) (cid-sent (card .link) (card .registers .ocr) (card .registers .groups) (card .lock .locked) (winsLine cards card) argument)
-    ∙ with-link card (identified (card .link)) (winsLine cards card && isReady card)
+    let w : Bool = winsLine cards card in
+    let there : Bool = eqb (columnNumber (columnOf (card .link .state))) 1 in
+    cases (card .mode .spi)
+    (λ (s : card .mode .spi ≡ true).
+    spi-stays card s cards 2 argument .0 ∙ sym (ap (λ (v : Bool). pick (v && isReady card) (withLink card (identified (card .link))) card) (spi-loses cards card s)))
+    (λ (s : card .mode .spi ≡ false).
+    ap (λ (g : Commanded). withLink card (g .link)) (mmc-heard card w 2 argument s)
+    ∙ ap (withLink card) (cid-sent (card .link) (card .registers .ocr) (card .registers .groups) (card .lock .locked) w argument)
+    ∙ with-link card (identified (card .link)) (w && there)
+    ∙ ap (λ (b : Bool). pick (w && (not b && there)) (withLink card (identified (card .link))) card) (sym s))
 
 address-card : (cards : List Card) (a argument : ℕ) → 1 ≤ a → argument / 65536 ≡ a → (card : Card)
     → cardAfter cards 3 argument card ≡ afterAddress a card
 unfolding cardAfter commandAt
 address-card cards a argument some high card =
-    ap (withLink card)
-    (address-taken (card .link) (card .registers .ocr) (card .registers .groups) (card .lock .locked) (winsLine cards card) a argument some high)
-    ∙ with-link card (stood a (card .link)) (isIdent card)
+    let w : Bool = winsLine cards card in
+    let there : Bool = eqb (columnNumber (columnOf (card .link .state))) 2 in
+    cases (card .mode .spi)
+    (λ (s : card .mode .spi ≡ true).
+    spi-stays card s cards 3 argument .0 ∙ ap (λ (b : Bool). pick (not b && there) (reached a card) card) (sym s))
+    (λ (s : card .mode .spi ≡ false).
+    ap (λ (g : Commanded). withLink card (g .link)) (mmc-heard card w 3 argument s)
+    ∙ ap (withLink card)
+    (address-taken (card .link) (card .registers .ocr) (card .registers .groups) (card .lock .locked) w a argument some high)
+    ∙ with-link card (stood a (card .link)) there
+    ∙ ap (λ (b : Bool). pick (not b && there) (reached a card) card) (sym s))
 
 -- a round over a list of cards
 unfoldable pub cidRound : List Card → List Card
@@ -174,7 +193,7 @@ module _ (cards : List Card) (g : Good cards) where
 
   -- a winner takes the address
   winner : (a : ℕ) (card : Card) → winsLine cards card ≡ true → isReady card ≡ true → afterAddress a (afterCid cards card) ≡ reached a card
-  winner a card w p = rw (w, p)
+  winner a card w p = rw (w, p, ready-mmc card p)
 
   round-at : (a : ℕ) (ids : List ℕ) → distinct (readyIdentifiers cards) ≡ ids → round a cards ≡ roundBy ids a cards
   unfolding cidRound addressRound one

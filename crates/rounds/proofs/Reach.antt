@@ -6,23 +6,29 @@
 --   final-one       a round, and then the others
 --   reach-now, reach-not, reach-yet    round k reaches a card whose turn it is, and leaves any other
 --   ready-member, ready-from    the identifiers are those of the cards in Ready
+--   ready-mmc       a card in Ready is in MMC mode
 -- Assumes nothing.
 use mathlib.Core.Path.{_≡_, refl, sym, ap, ap₂, _∙_, subst}
-use mathlib.Core.Bool.{true, false, _&&_}
+use mathlib.Core.Bool.{Bool, true, false, not, _&&_}
 use mathlib.Core.Logic.{⊎-elim}
 use mathlib.Core.List.{List, [], _∷_, map, List·Memᴰ, List·Memᴰ·head, List·Memᴰ·tail, List·Memᴰ·not-nil, List·Memᴰ·cases-cons}
 use Prim.Native.Nat.{ℕ, zero, suc, _<_}
 use native.Mathlib.Omega.{arith}
-use borrow.Author.Tests.{eqb-true, eqb-false, lt-ltb, le-ltb}
+use borrow.Author.Tests.{eqb-true, eqb-false, lt-ltb, le-ltb, not-true}
 use lib.Dec.{eqb}
 use lib.ListN.{length, take}
-use Rattle.base.proofs.Cases.{cases}
+use Rattle.base.proofs.Cases.{cases, first}
 use Rattle.base.specs.Choice.{pick}
 use Rattle.bus.specs.Bus.{isReady}
 use Rattle.card_record.specs.declared.Card.{Card}
+use Rattle.states.specs.States.{columnOf, columnNumber}
 use Rattle.rounds.proofs.Distinct.{under-member, distinct-ascending, distinct-has, without, distinct-without, without-first, rank-under}
 use Rattle.rounds.specs.Demand3.{Round, addressAt, identifier, readyIdentifiers, reached}
 use Rattle.rounds.specs.Distinct.{distinct, rank, Under, Ascending}
+
+pub never-both : (b : Bool) → (b && false) ≡ false
+never-both true = refl
+never-both false = refl
 
 pub map-on : {A B : Type 0} (f g : A → B) (l : List A) → ((x : A) → List·Memᴰ x l → f x ≡ g x) → map f l ≡ map g l
 map-on f g [] h = refl
@@ -31,6 +37,10 @@ map-on f g (x ∷ l) h = ap₂ (λ y ys. y ∷ ys) (h x (List·Memᴰ·head refl
 pub map-id : {A : Type 0} (l : List A) → map (λ x. x) l ≡ l
 map-id [] = refl
 map-id (x ∷ l) = ap (λ t. x ∷ t) (map-id l)
+
+-- a card in Ready is in MMC mode
+pub ready-mmc : (c : Card) → isReady c ≡ true → c .mode .spi ≡ false
+ready-mmc c p = not-true (c .mode .spi) (first (not (c .mode .spi)) (eqb (columnNumber (columnOf (c .link .state))) 1) p)
 
 -- the cards in Ready that hold m are moved with address a, and no other card changes
 unfoldable pub one : ℕ → ℕ → Card → Card
@@ -79,7 +89,7 @@ ready-round m a [] = refl
 ready-round m a (c ∷ l) =
     cases (isReady c)
     (λ p. cases (eqb (identifier c) m)
-    (λ q. rw (p, q) (ready-round m a l))
+    (λ q. rw (p, q, ready-mmc c p) (ready-round m a l))
     (λ q. rw (p, q, p) (ap (λ t. identifier c ∷ t) (ready-round m a l))))
     (λ p. simp p (ready-round m a l))
 
@@ -95,6 +105,14 @@ ids-next m a ms l e =
     ap distinct (ready-round m a l) ∙ distinct-without m (readyIdentifiers l) ∙ ap (without m) e
     ∙ without-first m ms (subst Ascending e (distinct-ascending (readyIdentifiers l)))
 
+-- a card that is not in Ready is never reached, nor is one that was
+pub final-none : (rounds : List Round) (ids : List ℕ) (c : Card) → isReady c ≡ false → final rounds ids c ≡ c
+unfolding final
+final-none rounds ids c p = rw p
+
+final-reached : (rounds : List Round) (ids : List ℕ) (a : ℕ) (c : Card) → final rounds ids (reached a c) ≡ reached a c
+final-reached rounds ids a c = final-none rounds ids (reached a c) (never-both (not (c .mode .spi)))
+
 pub final-one : (m : ℕ) (round : Round) (ms : List ℕ) (rounds : List Round) (l : List Card) → distinct (readyIdentifiers l) ≡ m ∷ ms → (c : Card) → List·Memᴰ c l
     → final rounds ms (one m (round .address) c) ≡ final (round ∷ rounds) (m ∷ ms) c
 unfolding final one rank reach Ascending
@@ -102,7 +120,9 @@ final-one m round ms rounds l e c k =
     cases (isReady c)
     (λ p. cases (eqb (identifier c) m)
     (λ q. let h = eqb-true (identifier c) m q in
-    rw (p, q, le-ltb m (identifier c) (omega arith)) (hit (identifier c) h))
+    ap₂ (λ (s t : Bool). final rounds ms (pick (s && t) (reached (round .address) c) c)) p q
+    ∙ final-reached rounds ms (round .address) c
+    ∙ rw (p, le-ltb m (identifier c) (omega arith)) (hit (identifier c) h))
     (λ q. let ne = eqb-false (identifier c) m q in
     let here : List·Memᴰ (identifier c) (m ∷ ms) =
     subst (List·Memᴰ (identifier c)) e (distinct-has (readyIdentifiers l) (identifier c) (ready-member l c k p))
@@ -124,10 +144,6 @@ final-one m round ms rounds l e c k =
 
 pub none-ready : (l : List Card) → distinct (readyIdentifiers l) ≡ [] → (c : Card) → List·Memᴰ c l → isReady c ≡ true → ⊥
 none-ready l e c k p = List·Memᴰ·not-nil (subst (List·Memᴰ (identifier c)) e (distinct-has (readyIdentifiers l) (identifier c) (ready-member l c k p)))
-
-pub final-none : (rounds : List Round) (ids : List ℕ) (c : Card) → isReady c ≡ false → final rounds ids c ≡ c
-unfolding final
-final-none rounds ids c p = rw p
 
 pub ready-from : (l : List Card) (x : ℕ) → List·Memᴰ x (readyIdentifiers l) → (c : Card) × List·Memᴰ c l × (isReady c ≡ true) × (identifier c ≡ x)
 unfolding readyIdentifiers

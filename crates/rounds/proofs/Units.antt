@@ -1,36 +1,45 @@
--- A unit that shares its line and a card on our bus are one: told whether its CID is heard to the last bit (`winsLine`), the unit's own call
--- leaves the card and sends the bytes that the bus has of it, and changes nothing that the unit is lent.
---   unit-commanded    a command for the bus: the same `commandOf` at the same `Met`
+-- A unit that shares its line and a card on our bus are one, in either mode: told whether its CID is heard to the last bit (`winsLine`) and that
+-- its select line is high, as every card's is on a bus, the unit's own call leaves the card and sends the bytes that the bus has of it, and
+-- changes nothing that the unit is lent.
+--   unit-commanded    a command for the bus: what the bus has of the card, in SPI nothing
 --   unit-is-card      any frame that the bus does not refuse 14: the card that the bus then has in its place
 -- Assumes nothing.
 use mathlib.Core.Path.{_≡_, refl, sym, ap, _∙_}
-use mathlib.Core.Bool.{Bool, true, false}
+use mathlib.Core.Bool.{Bool, true, false, not, _&&_, _||_}
 use mathlib.Core.List.{List, [], _∷_, map}
 use Prim.Native.Nat.{ℕ, _≤_, _<_}
 use borrow.Author.Tests.{le-leb}
+use lib.Dec.{eqb}
 use lib.ListN.{length, getD}
 use Rattle.base.proofs.Cases.{cases}
-use Rattle.base.specs.Choice.{unless}
+use Rattle.base.specs.Choice.{pick, unless}
 use Rattle.base.specs.Refusals.{by}
-use Rattle.bus.specs.Bus.{countOf, cardsOf, withCards, winsLine, commandAt, cardAfter, busIndices, refusedOn, damagedCard, commandFor, framedOn, busFrame}
+use Rattle.bus.proofs.InSpi.{spi-stays}
+use Rattle.bus.specs.Bus.{countOf, cardsOf, withCards, winsLine, commandOn, commandAt, cardAfter, busIndices, refusedOn, damagedCard, commandFor, framedOn, busFrame}
 use Rattle.bus.specs.declared.Bus.{Bus}
 use Rattle.bus.specs.declared.Framed.{Framed as Answered}
 use Rattle.bus.specs.declared.Shown.the-variants.{Refused}
-use Rattle.card.specs.Frame.{FrameJudged, framed, frameTold, frameStepped}
+use Rattle.card.specs.Frame.{FrameJudged, commanded, framed, frameTold, frameStepped}
 use Rattle.card.specs.Step.{stepOf}
 use Rattle.card.specs.declared.Call.the-variants.{Frame}
+use Rattle.card_blocks.specs.declared.Outcome.the-variants.{Done, Refused as NotTaken}
 use Rattle.card_blocks.specs.declared.Stepped.{Stepped}
-use Rattle.command.specs.Command.{metBy}
+use Rattle.command.specs.Answers.{silent}
+use Rattle.command.specs.Command.{metBy, damagedLink, commandOf}
 use Rattle.command.specs.Obey.{changeOf}
 use Rattle.command.specs.declared.Change.the-variants.{Nothing}
-use Rattle.command.specs.declared.Met.{Met}
-use Rattle.demands.proofs.Frames.{judged-as, unlent}
+use Rattle.command.specs.declared.Commanded.{Commanded}
+use Rattle.demands.proofs.Frames.{judged-as, unlent-as, stepped-stays}
 use Rattle.demands.specs.Silenced.{Reads, Unlent}
-use Rattle.made.proofs.Took.{took-nothing}
+use Rattle.made.proofs.Took.{heard-nothing}
 use Rattle.moves.proofs.Among.{each}
 use Rattle.moves.specs.Indices.{among}
 use Rattle.card_record.specs.Making.{refusedMake}
+use Rattle.card_record.specs.Record.{withLink}
 use Rattle.card_record.specs.declared.Card.{Card}
+use Rattle.spi.proofs.Laws.{spi-high}
+use Rattle.spi.specs.Hearing.{unheard, heardInMmc, heardOf, damagedOf}
+use Rattle.spi.specs.declared.Heard.{Heard}
 use Rattle.store.specs.Lent.{Lent, seen, lendingOf}
 use Rattle.store.specs.declared.Lending.the-variants.{Right}
 use Rattle.wire.specs.Frames.{framingOf, checked, frameOf}
@@ -48,14 +57,28 @@ listed-none index argument =
     each (λ (k : ℕ). changeOf k argument ≡ Nothing) busIndices
     (refl, (refl, (refl, (refl, (refl, (refl, (refl, (refl, (refl, (refl, tt)))))))))) index
 
+-- a command as the card takes it with its line high: in MMC mode as ever, and in SPI not at all
+module _ (card : Card) (wins : Bool) (index argument : ℕ) where
+  by-mode : (spi : Bool) (given : Commanded)
+      → pick spi (unheard (card .mode) (card .link)) (heardInMmc (card .mode) given) ≡ heardInMmc (card .mode) (pick spi (silent (card .link)) given)
+  by-mode true given = refl
+  by-mode false given = refl
+
+  heard-on : heardOf (card .mode) false (card .link) (metBy card wins) index argument ≡ heardInMmc (card .mode) (commandOn card wins index argument)
+  unfolding heardOf commandOn
+  heard-on = by-mode (card .mode .spi) (commandOf (card .link) (metBy card wins) index argument)
+
 pub unit-commanded : (cards : List Card) (card : Card) (frame : List ℕ) (lent : Lent) (out : List ℕ) (index argument : ℕ)
     → Reads card frame lent index argument → among index busIndices ≡ true
-    → Unlent card (winsLine cards card) frame lent out (commandAt cards index argument card)
+    → Unlent card (winsLine cards card) false frame lent out (heardInMmc (card .mode) (commandAt cards index argument card))
 unfolding commandAt
 unit-commanded cards card frame lent out index argument reads listed =
-    let met : Met = metBy card (winsLine cards card) in
-    unlent card (winsLine cards card) frame lent out index argument reads
-    (took-nothing (card .link) met index argument (listed-none index argument listed))
+    let wins : Bool = winsLine cards card in
+    let same : heardOf (card .mode) false (card .link) (metBy card wins) index argument .change ≡ Nothing =
+    heard-nothing (card .link) (metBy card wins) index argument (listed-none index argument listed) (card .mode) false
+    in
+    unlent-as card wins false frame lent out index argument reads (heardInMmc (card .mode) (commandOn card wins index argument))
+    (heard-on card wins index argument) (ap (λ (h : Heard). h .change) (sym (heard-on card wins index argument)) ∙ same)
 
 -- ---- any frame
 -- what a frame leaves of one of these cards
@@ -98,23 +121,55 @@ module _ (bus : Bus) (frame : List ℕ) (some : 1 ≤ countOf bus) (heard : busF
     wins = winsLine cards card
 
     stepped-as : (framing : Framing) → framingOf frame ≡ framing
-        → frameStepped card wins frame (seen lent) .card
-        ≡ frameTold card (seen lent) (framed card wins framing) .card
+        → frameStepped card wins false frame (seen lent) .card
+        ≡ frameTold card (seen lent) (framed card wins false framing) .card
     unfolding frameStepped
     stepped-as framing e =
-        ap (λ (j : FrameJudged). frameTold card (seen lent) j .card) (judged-as card wins frame (seen lent) right framing e)
+        ap (λ (j : FrameJudged). frameTold card (seen lent) j .card) (judged-as card wins false frame (seen lent) right framing e)
 
-    unit-after : (framing : Framing) → framingOf frame ≡ framing → frameStepped card wins frame (seen lent) .card ≡ afterFraming cards framing card
+    -- a damaged frame sets bit 23 in both
+    damaged-mmc : card .mode .spi ≡ false → (index argument : ℕ)
+        → frameTold card (seen lent) (framed card wins false (Framed index argument false)) .card ≡ damagedCard card
+    unfolding damagedOf
+    damaged-mmc here index argument =
+        ap (λ (h : Bool). frameTold card (seen lent)
+        (unless (false || (h && (not (card .mode .checks) && not (eqb index 0))))
+        (commanded card (NotTaken (by 3))
+        (pick h (unheard (card .mode) (card .link)) (unheard (card .mode) (damagedLink (card .link)))))
+        (commanded card Done (heardOf (card .mode) false (card .link) (metBy card wins) index argument))) .card) here
+        ∙ ap (λ (h : Bool). pick h card (withLink card (damagedLink (card .link)))) (sym here)
+
+    unit-in-mmc : card .mode .spi ≡ false → (framing : Framing) → framingOf frame ≡ framing
+        → frameStepped card wins false frame (seen lent) .card ≡ afterFraming cards framing card
     unfolding frameOf cardAfter
-    unit-after (Unframed refusal) e = stepped-as (Unframed refusal) e
-    unit-after (Framed index argument true) e =
+    unit-in-mmc here (Unframed refusal) e = stepped-as (Unframed refusal) e
+    unit-in-mmc here (Framed index argument true) e =
         ap (λ (s : Stepped). s .card)
         (unit-commanded cards card frame lent out index argument (record { right = right; command = ap checked e }) (listed index argument e) .step)
-    unit-after (Framed index argument false) e = stepped-as (Framed index argument false) e
+    unit-in-mmc here (Framed index argument false) e = stepped-as (Framed index argument false) e ∙ damaged-mmc here index argument
+
+    -- in SPI neither hears any frame
+    kept-in-spi : card .mode .spi ≡ true → (framing : Framing) → afterFraming cards framing card ≡ card
+    kept-in-spi here (Unframed refusal) = refl
+    kept-in-spi here (Framed index argument true) = spi-stays card here cards index argument .0
+    kept-in-spi here (Framed index argument false) = spi-stays card here cards index argument .1
+
+    unit-in-spi : card .mode .spi ≡ true → frameStepped card wins false frame (seen lent) .card ≡ card
+    unfolding damagedOf
+    unit-in-spi here =
+        stepped-stays card wins false (λ index argument. spi-high (card .mode) (card .link) (metBy card wins) index argument here)
+        (ap (λ (h : Bool). pick h (unheard (card .mode) (card .link)) (unheard (card .mode) (damagedLink (card .link)))) here) frame (seen lent) .0
+
+    unit-after : (framing : Framing) → framingOf frame ≡ framing
+        → frameStepped card wins false frame (seen lent) .card ≡ afterFraming cards framing card
+    unit-after framing e =
+        cases (card .mode .spi)
+        (λ (here : card .mode .spi ≡ true). unit-in-spi here ∙ sym (kept-in-spi here framing))
+        (λ (here : card .mode .spi ≡ false). unit-in-mmc here framing e)
 
   pub unit-is-card : (place : ℕ) (lent : Lent) (out : List ℕ) → place < length (cardsOf bus)
       → lendingOf (seen lent) (cardAt bus place .registers .groups) ≡ Right
-      → stepOf (cardAt bus place) (Frame (winsLine (cardsOf bus) (cardAt bus place))) frame (seen lent) (length out) .card
+      → stepOf (cardAt bus place) (Frame (winsLine (cardsOf bus) (cardAt bus place)) false) frame (seen lent) (length out) .card
       ≡ cardAt (busFrame bus frame .bus) place
   unit-is-card place lent out there right =
       unit-after (cardsOf bus) (cardAt bus place) lent out right (framingOf frame) refl

@@ -20,6 +20,7 @@ with cid =
       registers = record { cid = cid; csd = replicate 16 0; ocr = 0; groups = 0 };
       lock = refusedMake .lock;
       link = refusedMake .link;
+      mode = refusedMake .mode;
     }
 
 abbrev first : List ℕ → ℕ → Bus

@@ -1,22 +1,25 @@
--- Buses that do not meet demand 3, each refuted on a bus of two cards in Ready, with the CIDs 0 and 1.
+-- Buses that do not meet demand 3, each refuted on a bus of two cards in Ready, with the CIDs 0 and 1; in the last two, CID 1 is in SPI.
 --   idle-refuted      one that does nothing: round 1 has no answer
 --   frozen-refuted    one that changes no card, whatever it shows: round 1 reaches no card
 --   hasty-refuted     one that addresses every card in round 1 and then plays along: round 2 has no answer
 --   hasty-late        the same, whatever it shows: round 2 does not reach its card
 --   strict-refuted    one that does nothing at a frame whose argument ends in a byte other than 0: a CMD2 of argument 1 has no answer
 --   strict-late       nor does a CMD3 whose bits 15..0 are 1 reach any card
+--   waking-refuted    one whose frames take a card out of SPI, whatever it shows: after round 1 that card is in MMC mode
+--   moving-refuted    one whose frames give a card in SPI an address, whatever it shows: after round 1 that card is in Stand-by
 -- Document 01, "What each call owes": "A bus that does nothing fails round 1 of demand 3. A bus that addresses every card in round 1 and then
 -- plays along fails round 2."
 -- Assumes nothing.
-use mathlib.Core.Path.{_≡_, refl, ap}
-use mathlib.Core.Bool.{Bool, true}
+use mathlib.Core.Path.{_≡_, refl, sym, ap, _∙_}
+use mathlib.Core.Bool.{Bool, true, false}
 use mathlib.Core.List.{List, [], _∷_, _++_, map}
 use Prim.Native.Nat.{ℕ, zero, suc, _≤_, _<_}
 use native.Mathlib.Omega.{arith}
 use lib.Dec.{eqb}
 use lib.ListN.{length, getD, replicate}
+use Rattle.base.proofs.Cases.{never}
 use Rattle.base.specs.Choice.{pick}
-use Rattle.bus.specs.Bus.{cardsOf, withCards, commandAt, cardAfter, frameFrom, anyReady, longestOf, cidLine, andLine, lineOf, padded, commandFor, busFrame}
+use Rattle.bus.specs.Bus.{cardsOf, withCards, commandOn, commandAt, cardAfter, frameFrom, anyReady, longestOf, cidLine, andLine, lineOf, padded, commandFor, busFrame}
 use Rattle.bus.specs.declared.Bus.{Bus}
 use Rattle.bus.specs.declared.Shown.{Shown}
 use Rattle.bus.specs.declared.Shown.the-variants.{Line, Silent}
@@ -33,7 +36,8 @@ use Rattle.moves.specs.Classes.{classOf}
 use Rattle.moves.specs.Moves.{moveOf}
 use Rattle.moves.specs.Rows.{transferRow, rowOf}
 use Rattle.card_record.specs.Making.{refusedMake}
-use Rattle.card_record.specs.Record.{withLink}
+use Rattle.card_record.specs.Power.{mmcMode}
+use Rattle.card_record.specs.Record.{withLink, withMode}
 use Rattle.card_record.specs.declared.Card.{Card}
 use Rattle.states.specs.States.{columnOf, columnNumber}
 use Rattle.states.specs.declared.State.the-variants.{Ready}
@@ -53,6 +57,7 @@ ready last =
       registers = record { cid = replicate 15 0 ++ (last ∷ []); csd = replicate 16 0; ocr = 0x00FF8000; groups = 1 };
       lock = noPassword;
       link = record { state = Ready; address = 1; length = 512; errors = noErrors; tags = noTags };
+      mode = mmcMode;
     }
 
 abbrev two : Bus
@@ -164,7 +169,7 @@ abbrev shownBy : ℕ → Shown
 shownBy k = answer (hasty busFrame) two (rounds 0 0) k .shown
 
 hasty-shows : (shownBy 0 ≡ Line 17) × (shownBy 1 ≡ Silent)
-unfolding hasty roundsOf refusedMake holding commandFrame sealed crc7Of remainder divide bits busFrame framingOf fieldsOf commandFor withCards lineOf cidLine andLine frameFrom anyReady longestOf sentBytes r1Frame r2Frame cardAfter commandAt commandOf takenOf actedOf afterChecks judgedOf taggingOf argumentFault resetTold obeyed awaitedBy changeOf responseOf answered wordOf classOf moveOf rowOf transferRow line contested wins together padded
+unfolding hasty roundsOf refusedMake holding commandFrame sealed crc7Of remainder divide bits busFrame framingOf fieldsOf commandFor withCards lineOf cidLine andLine frameFrom anyReady longestOf sentBytes r1Frame r2Frame cardAfter commandAt commandOn commandOf takenOf actedOf afterChecks judgedOf taggingOf argumentFault resetTold obeyed awaitedBy changeOf responseOf answered wordOf classOf moveOf rowOf transferRow line contested wins together padded
 hasty-shows = (refl, refl)
 
 pub hasty-refuted : Demand3 (hasty busFrame) → ⊥
@@ -177,7 +182,7 @@ hasty-refuted d =
 
 -- and whatever it shows, the card that should be reached in round 2 has the address of round 1
 hasty-address : (says : Step) → cardAt (before (hasty says) two (rounds 0 0) 2) 0 .link .address ≡ 1
-unfolding hasty roundsOf refusedMake holding commandFrame sealed crc7Of remainder divide bits busFrame framingOf fieldsOf commandFor withCards cardAfter commandAt commandOf takenOf actedOf afterChecks judgedOf taggingOf argumentFault obeyed awaitedBy responseOf answered classOf moveOf rowOf
+unfolding hasty roundsOf refusedMake holding commandFrame sealed crc7Of remainder divide bits busFrame framingOf fieldsOf commandFor withCards cardAfter commandAt commandOn commandOf takenOf actedOf afterChecks judgedOf taggingOf argumentFault obeyed awaitedBy responseOf answered classOf moveOf rowOf
 hasty-address says = refl
 
 pub hasty-late : (says : Step) → Demand3 (hasty says) → ⊥
@@ -205,7 +210,7 @@ strict-refuted d =
 
 -- the second card has won round 1, and is still in Identification after CMD3
 strict-state : columnNumber (columnOf (cardAt (before strict two (rounds 0 1) 1) 1 .link .state)) ≡ 2
-unfolding strict roundsOf refusedMake holding commandFrame sealed crc7Of remainder divide bits busFrame framingOf fieldsOf commandFor withCards cardAfter commandAt commandOf takenOf actedOf afterChecks judgedOf taggingOf argumentFault obeyed awaitedBy responseOf answered classOf moveOf rowOf line contested wins
+unfolding strict roundsOf refusedMake holding commandFrame sealed crc7Of remainder divide bits busFrame framingOf fieldsOf commandFor withCards cardAfter commandAt commandOn commandOf takenOf actedOf afterChecks judgedOf taggingOf argumentFault obeyed awaitedBy responseOf answered classOf moveOf rowOf line contested wins
 strict-state = refl
 
 pub strict-late : Demand3 strict → ⊥
@@ -214,3 +219,55 @@ strict-late d =
     let e = rounds-of strict d 0 1 (omega arith) (omega arith) .reaches 0 (omega arith) (omega arith) 1 (omega arith) (refl, refl) in
     let state = ap (λ (c : Card). columnNumber (columnOf (c .link .state))) e in
     omega (arith, strict-state)
+
+-- ---- one that is ours, but for what each frame does to a card in SPI
+unfoldable pub disturbing : (Card → Card) → Step → Step
+disturbing touch says bus frame =
+    record {
+      bus = withCards bus (map (λ (card : Card). pick (card .mode .spi) (touch card) card) (cardsOf (busFrame bus frame .bus)));
+      shown = says bus frame .shown;
+      line = says bus frame .line;
+    }
+
+-- the sample, with its first card in SPI
+abbrev mixed : Bus
+mixed = record { cards = withMode (ready 1) (record { spi = true; checks = false }) ∷ ready 0 ∷ replicate 28 refusedMake; count = 2 }
+
+mixed-formed : WellFormed mixed
+mixed-formed = (two-formed .0, each-place)
+  where
+    each-place : (place : ℕ) → place < 30 → CidBytes (getD (mixed .cards) place refusedMake .registers .cid)
+    each-place zero h = two-formed .1 0 h
+    each-place (suc place) h = two-formed .1 (suc place) h
+
+mixed-unidentified : NoneIdentified mixed
+mixed-unidentified zero h = refl
+mixed-unidentified (suc zero) h = refl
+mixed-unidentified (suc (suc place)) h = absurd (omega arith)
+
+mixed-rounds : (step : Step) → Demand3 step → Rounds step mixed (rounds 0 0)
+mixed-rounds step d = d mixed (rounds 0 0) mixed-formed (omega arith) mixed-unidentified (undamaged 0 0 (omega arith) (omega arith))
+
+-- a card taken out of SPI
+abbrev awake : Card → Card
+awake card = withMode card mmcMode
+
+woken : (says : Step) → cardAt (before (disturbing awake says) mixed (rounds 0 0) 1) 0 .mode .spi ≡ false
+unfolding disturbing roundsOf refusedMake holding commandFrame sealed crc7Of remainder divide bits busFrame framingOf fieldsOf commandFor withCards cardAfter commandAt commandOn commandOf takenOf actedOf afterChecks judgedOf taggingOf argumentFault obeyed awaitedBy responseOf answered classOf moveOf rowOf line contested wins
+woken says = refl
+
+pub waking-refuted : (says : Step) → Demand3 (disturbing awake says) → ⊥
+waking-refuted says d =
+    let e = mixed-rounds (disturbing awake says) d .spi 0 1 refl in
+    never (sym (woken says) ∙ ap (λ (c : Card). c .mode .spi) e)
+
+-- a card in SPI given an address, as if it had won
+moved : (says : Step) → columnNumber (columnOf (cardAt (before (disturbing (reached 1) says) mixed (rounds 0 0) 1) 0 .link .state)) ≡ 3
+unfolding disturbing roundsOf refusedMake holding commandFrame sealed crc7Of remainder divide bits busFrame framingOf fieldsOf commandFor withCards cardAfter commandAt commandOn commandOf takenOf actedOf afterChecks judgedOf taggingOf argumentFault obeyed awaitedBy responseOf answered classOf moveOf rowOf line contested wins
+moved says = refl
+
+pub moving-refuted : (says : Step) → Demand3 (disturbing (reached 1) says) → ⊥
+moving-refuted says d =
+    let e = mixed-rounds (disturbing (reached 1) says) d .spi 0 1 refl in
+    let state = ap (λ (c : Card). columnNumber (columnOf (c .link .state))) e in
+    omega (arith, moved says)

@@ -1,4 +1,5 @@
--- The consequences of demand 3, in the mission's words: a clone is a missing round, and an address that two cards share.
+-- The consequences of demand 3, in the mission's words: a clone is a missing round, and an address that two cards share. As there, a card in Ready
+-- is one in MMC mode: of two cards of one CID, of which one is in SPI, the rounds tell nothing.
 -- Assumes nothing.
 use mathlib.Core.Bool.{Bool, true, false}
 use mathlib.Core.List.{List}

@@ -1,16 +1,18 @@
--- Demand 3: what rounds of CMD2 and CMD3 do on a bus of 1 to 30 cards, whatever their records are, if none begins in Identification.
+-- Demand 3: what rounds of CMD2 and CMD3 do on a bus of 1 to 30 cards, whatever their records are, if none begins in Identification. It "speaks of
+-- MMC mode only" (document 02, request 1): wherever a card is said to be in Ready or in Identification, it is so in MMC mode. Of a card in SPI it
+-- says one thing, that no round changes it.
 --
 -- How to read it. A definition is a name, its type, and after `=` what it stands for: `roundOf step bus round` is the bus after that round.
 -- `getD list k d` is the entry at place k of a list, counted from 0 (d would stand in for one that is not there), `take k list` are its
 -- first k entries, `length list` is their number. `≡` is "is", `×` is "and", `A → B` is "if A, then B", `↔` is "exactly if", `→ ⊥` is
 -- "is not so", and `(x : ℕ) × ..` is "there is a number x, and ..". A `record` has the fields that are listed in it, each of which must be
 -- so where it says something; `x .name` is the field `name` of x. `[]` is the empty list, `x ∷ xs` is x and then the list xs. `Unit` asks
--- for nothing. Rounds are counted from 0 here: round k is the (k + 1)-th.
+-- for nothing. A test is `true` or `false`, and `not` and `&&` are "not" and "and" of tests. Rounds are counted from 0 here: round k is the (k + 1)-th.
 --
 -- `Demand3 step` is said of any bus that answers frames, `step`, so that wrong ones can be refuted (proofs/WrongBuses.antt). That it holds
 -- of ours, `busFrame`, which the promise of the call `bus::frame` names, is `demand3` in proofs/Demand3.antt.
 -- Assumes nothing.
-use mathlib.Core.Bool.{Bool, true, false}
+use mathlib.Core.Bool.{Bool, true, false, not, _&&_}
 use mathlib.Core.List.{List, [], _∷_, List·Memᴰ}
 use mathlib.Core.Logic.{_↔_}
 use mathlib.Core.Path.{_≡_}
@@ -101,7 +103,8 @@ identifier card = spelt (bits (card .registers .cid))
 unfoldable pub cidOf : ℕ → List ℕ
 cidOf number = octets 16 (bitsOf 128 number)
 
--- the identifiers of the cards in Ready, in the order of their places
+-- the identifiers of the cards in Ready, in the order of their places. `isReady`, which the bus itself asks in CMD2, is Ready in MMC mode:
+-- the card is not in SPI, and in Ready
 unfoldable pub readyIdentifiers : List Card → List ℕ
 readyIdentifiers [] = []
 readyIdentifiers (card ∷ cards) = pick (isReady card) (identifier card ∷ readyIdentifiers cards) (readyIdentifiers cards)
@@ -119,11 +122,11 @@ nth bus k = getD (identifiers bus) k 0
 abbrev pub stood : ℕ → Link → Link
 stood address link = record { state = Stby; address = address; length = link .length; errors = noErrors; tags = noTags }
 
--- a card that was reached: its registers and its lock are as they were
+-- a card that was reached: its registers, its lock and its mode are as they were
 abbrev pub reached : ℕ → Card → Card
 reached address card = withLink card (stood address (card .link))
 
--- the card in a place is in Ready and holds that identifier
+-- the card in a place is in Ready, in MMC mode, and holds that identifier
 abbrev pub Holds : Bus → ℕ → ℕ → Type 0
 Holds bus place number = (isReady (cardAt bus place) ≡ true) × (identifier (cardAt bus place) ≡ number)
 
@@ -136,10 +139,11 @@ CidBytes cid = (length cid ≡ 16) × ((i : ℕ) → getD cid i 0 < 256)
 abbrev pub WellFormed : Bus → Type 0
 WellFormed bus = (length (bus .cards) ≡ 30) × ((place : ℕ) → place < 30 → CidBytes (getD (bus .cards) place refusedMake .registers .cid))
 
--- no card is in Identification
+-- a card is in Identification in MMC mode: it is not in SPI, and in Identification
 abbrev pub isIdent : Card → Bool
-isIdent card = eqb (columnNumber (columnOf (card .link .state))) 2
+isIdent card = not (card .mode .spi) && eqb (columnNumber (columnOf (card .link .state))) 2
 
+-- no card is so. Nothing is asked of cards in SPI
 abbrev pub NoneIdentified : Bus → Type 0
 NoneIdentified bus = (place : ℕ) → place < countOf bus → isIdent (cardAt bus place) ≡ false
 
@@ -169,11 +173,14 @@ pub record Rounds (step : Step) (bus : Bus) (rounds : List Round) : Type 0 where
   -- after the last, CMD2 gets no answer, and a round changes nothing on the bus
   pub last : (k : ℕ) → k < length rounds → length (identifiers bus) ≤ k
       → (answer step bus rounds k .shown ≡ Silent) × (before step bus rounds (suc k) ≡ before step bus rounds k)
+  -- a card that began in SPI is as it began after any number of rounds, in every field. Nor does it answer: the identifiers that CMD2 shows
+  -- are those of cards in MMC mode, and at our bus it sends nothing at any frame (`spi-stays` in bus, proofs/InSpi.antt)
+  pub spi : (place k : ℕ) → cardAt bus place .mode .spi ≡ true → cardAt (before step bus rounds k) place ≡ cardAt bus place
   -- no round adds a card, takes one away, or changes a place that is not taken
   pub places : (k : ℕ) → (before step bus rounds k .count ≡ bus .count)
       × (drop (countOf bus) (before step bus rounds k .cards) ≡ drop (countOf bus) (bus .cards))
 
--- of every bus of 1 to 30 cards, any records, none in Identification, and any list of undamaged rounds
+-- of every bus of 1 to 30 cards, any records, in either mode, none in Identification in MMC mode, and any list of undamaged rounds
 abbrev pub Demand3 : Step → Type 0
 Demand3 step =
     (bus : Bus) (rounds : List Round) → WellFormed bus → 1 ≤ countOf bus → NoneIdentified bus → AllUndamaged rounds → Rounds step bus rounds

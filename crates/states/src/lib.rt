@@ -13,11 +13,13 @@ pub enum Incoming {
 }
 
 // What a card in data is to send: a block from an address, blocks from an address on, the
-// protection bits from a group on.
+// protection bits from a group on; in SPI a register too.
 pub enum Outgoing {
     One(u32),
     Many(u32),
     Protection(u32),
+    Csd,
+    Cid,
 }
 
 pub enum State {

@@ -16,6 +16,7 @@ use lib.Seq.{getD-set-other}
 use Rattle.base.specs.Choice.{pick}
 use Rattle.base.proofs.Cases.{cases, first, last}
 use Rattle.card_blocks.proofs.Outcomes.{WritesAt, one, many, askedOf, InOutcome, unreads, refuses, stores, grants, forces, block-outcome}
+use Rattle.card_blocks.specs.Framing.{unstarted}
 use Rattle.card_blocks.specs.BlockIn.{blockRefused, blockGood, blockJudged, storedBy}
 use Rattle.card.specs.Frame.{frameJudged, changedBy}
 use Rattle.card_blocks.specs.declared.BlockJudged.{BlockJudged}
@@ -36,8 +37,7 @@ use Rattle.store.proofs.Erased.{erased-byte, erased-past}
 use Rattle.store.proofs.Sectors.{written-elsewhere}
 use Rattle.tags.specs.Tags.{taggedOf}
 use Rattle.tags.specs.declared.Tags.{Tags}
-use Rattle.wire.specs.Blocks.{payloadOf}
-use Rattle.stored.specs.Changes.{AwaitsWrite, ByteChanges, EntryChanges, ForcedErase, Cause, written, erased as by-tag, forced, MapCause, set}
+use Rattle.stored.specs.Changes.{AwaitsWrite, ByteChanges, EntryChanges, payloadAt, ForcedErase, Cause, written, erased as by-tag, forced, MapCause, set}
 use Rattle.stored.proofs.Requests.{asks-erase}
 use Rattle.stored.proofs.Commands.{FrameChange, nothing, protects, frees, erases, frame-change}
 
@@ -58,7 +58,7 @@ awaits card (many at) e = inr e
 pub forces-all : (card : Card) (input : List ℕ) (seen : Seen) → card .link .state ≡ Rcv LockRequest
     → askedOf card input .answer ≡ Erased → blockJudged card input seen .storing ≡ All → ForcedErase card BlockIn input seen
 forces-all card input seen on asked granted =
-    let byte = asks-erase (card .lock) (payloadOf input) (csdProtects (card .registers .csd)) asked in
+    let byte = asks-erase (card .lock) (payloadAt card input) (csdProtects (card .registers .csd)) asked in
     record { called = refl; awaited = on; forced = byte .0; granted = granted }
 
 -- ---- memory
@@ -66,13 +66,13 @@ module _ (card : Card) (input : List ℕ) (lent : Lent) (p : ℕ) where
   abbrev Differs : Lent → Type 0
   Differs after = getD (after .memory) p 0 ≡ getD (lent .memory) p 0 → ⊥
 
-  frame-byte : (wins : Bool) {change : Change} → FrameChange card wins input (seen lent) change
-      → frameJudged card wins input (seen lent) .change ≡ change
-      → Differs (changedBy card change lent) → Cause card (Frame wins) input (seen lent) (p / 512)
-  frame-byte wins nothing e d = absurd (d refl)
-  frame-byte wins (protects argument c l) e d = absurd (d refl)
-  frame-byte wins (frees argument c l) e d = absurd (d refl)
-  frame-byte wins (erases argument c l) e d =
+  frame-byte : (wins selected : Bool) {change : Change} → FrameChange card wins selected input (seen lent) change
+      → frameJudged card wins selected input (seen lent) .change ≡ change
+      → Differs (changedBy card change lent) → Cause card (Frame wins selected) input (seen lent) (p / 512)
+  frame-byte wins selected nothing e d = absurd (d refl)
+  frame-byte wins selected (protects argument c l) e d = absurd (d refl)
+  frame-byte wins selected (frees argument c l) e d = absurd (d refl)
+  frame-byte wins selected (erases argument c l) e d =
       let tags : Tags = card .link .tags in
       let whole : Bool = csdProtects (card .registers .csd) in
       cases (filled (lent .map) tags whole (p / 512))
@@ -81,6 +81,7 @@ module _ (card : Card) (input : List ℕ) (lent : Lent) (p : ℕ) where
       let guarded : Bool = protectedIn (lent .map) whole (p / 512) in
       by-tag (record {
         wins = wins;
+        selected = selected;
         called = refl;
         argument = argument;
         command = c;
@@ -91,7 +92,7 @@ module _ (card : Card) (input : List ℕ) (lent : Lent) (p : ℕ) where
       (λ f. absurd (d (unfilled-byte (lent .map) tags whole (lent .memory) p f)))
 
   block-byte : {judged : BlockJudged} → InOutcome card input (seen lent) judged → blockJudged card input (seen lent) ≡ judged
-      → Differs (storedBy input (judged .storing) lent) → Cause card BlockIn input (seen lent) (p / 512)
+      → Differs (storedBy (unstarted (card .mode .spi) input) (judged .storing) lent) → Cause card BlockIn input (seen lent) (p / 512)
   unfolding blockRefused blockGood
   block-byte (unreads n listed) e d = absurd (d refl)
   block-byte (refuses incoming refusal fault s why) e d = absurd (d refl)
@@ -100,13 +101,13 @@ module _ (card : Card) (input : List ℕ) (lent : Lent) (p : ℕ) where
       (λ t.
       written at (record { called = refl; awaited = awaits card w s; granted = λ room. ap (λ (j : BlockJudged). j .stepped .reply .outcome) e })
       (eqb-true (p / 512) (at / 512) t))
-      (λ t. absurd (d (written-elsewhere (lent .memory) input (at / 512) p (eqb-false (p / 512) (at / 512) t))))
+      (λ t. absurd (d (written-elsewhere (lent .memory) (unstarted (card .mode .spi) input) (at / 512) p (eqb-false (p / 512) (at / 512) t))))
   block-byte (grants s a) e d = absurd (d refl)
   block-byte (forces s a) e d = forced (forces-all card input (seen lent) s a (ap (λ (j : BlockJudged). j .storing) e))
 
 pub memory-changes : (card : Card) (call : Call) (input : List ℕ) (lent : Lent) (p : ℕ)
     → ByteChanges card call input lent p → Cause card call input (seen lent) (p / 512)
-memory-changes card (Frame wins) input lent p d = frame-byte card input lent p wins (frame-change card wins input (seen lent)) refl d
+memory-changes card (Frame wins selected) input lent p d = frame-byte card input lent p wins selected (frame-change card wins selected input (seen lent)) refl d
 memory-changes card BlockIn input lent p d = block-byte card input lent p (block-outcome card input (seen lent)) refl d
 memory-changes card BlockOut input lent p d = absurd (d refl)
 memory-changes card WorkDone input lent p d = absurd (d refl)
@@ -122,19 +123,19 @@ module _ (card : Card) (input : List ℕ) (lent : Lent) (group : ℕ) where
       cases (eqb group at) (λ t. eqb-true group at t)
       (λ t. absurd (d (getD-set-other (lent .map) at group (pick on 1 0) 0 (eqb-false group at t))))
 
-  frame-entry : (wins : Bool) {change : Change} → FrameChange card wins input (seen lent) change → frameJudged card wins input (seen lent) .change ≡ change
-      → MapDiffers (changedBy card change lent .map) → MapCause card (Frame wins) input (seen lent) group
-  frame-entry wins nothing e d = absurd (d refl)
-  frame-entry wins (protects argument c l) e d =
+  frame-entry : (wins selected : Bool) {change : Change} → FrameChange card wins selected input (seen lent) change → frameJudged card wins selected input (seen lent) .change ≡ change
+      → MapDiffers (changedBy card change lent .map) → MapCause card (Frame wins selected) input (seen lent) group
+  frame-entry wins selected nothing e d = absurd (d refl)
+  frame-entry wins selected (protects argument c l) e d =
       let g = addressed (argument / 8192) true d in
-      set (record { wins = wins; called = refl; argument = argument; addressed = g; taken = inl (c, rw g e) })
-  frame-entry wins (frees argument c l) e d =
+      set (record { wins = wins; selected = selected; called = refl; argument = argument; addressed = g; taken = inl (c, rw g e) })
+  frame-entry wins selected (frees argument c l) e d =
       let g = addressed (argument / 8192) false d in
-      set (record { wins = wins; called = refl; argument = argument; addressed = g; taken = inr (c, rw g e) })
-  frame-entry wins (erases argument c l) e d = absurd (d refl)
+      set (record { wins = wins; selected = selected; called = refl; argument = argument; addressed = g; taken = inr (c, rw g e) })
+  frame-entry wins selected (erases argument c l) e d = absurd (d refl)
 
   block-entry : {judged : BlockJudged} → InOutcome card input (seen lent) judged → blockJudged card input (seen lent) ≡ judged
-      → MapDiffers (storedBy input (judged .storing) lent .map) → MapCause card BlockIn input (seen lent) group
+      → MapDiffers (storedBy (unstarted (card .mode .spi) input) (judged .storing) lent .map) → MapCause card BlockIn input (seen lent) group
   unfolding blockRefused blockGood
   block-entry (unreads n listed) e d = absurd (d refl)
   block-entry (refuses incoming refusal fault s why) e d = absurd (d refl)
@@ -144,7 +145,7 @@ module _ (card : Card) (input : List ℕ) (lent : Lent) (group : ℕ) where
 
 pub map-changes : (card : Card) (call : Call) (input : List ℕ) (lent : Lent) (group : ℕ)
     → EntryChanges card call input lent group → MapCause card call input (seen lent) group
-map-changes card (Frame wins) input lent group d = frame-entry card input lent group wins (frame-change card wins input (seen lent)) refl d
+map-changes card (Frame wins selected) input lent group d = frame-entry card input lent group wins selected (frame-change card wins selected input (seen lent)) refl d
 map-changes card BlockIn input lent group d = block-entry card input lent group (block-outcome card input (seen lent)) refl d
 map-changes card BlockOut input lent group d = absurd (d refl)
 map-changes card WorkDone input lent group d = absurd (d refl)

@@ -1,13 +1,13 @@
 -- The theorems of this crate for made cards: what they suppose of a card holds of every card that was made.
 --   made-locked              a made card that is locked awaits no write
 --   made-awaiting            one that awaits a write is unlocked, and awaits it at an aligned address of 32 bits
---   made-read-back, made-read-back-many    a block that a made card stored for CMD24, or for CMD25, is read back
+--   made-read-back, made-read-back-many    a block that a made card stored for CMD24, in either mode, or for CMD25, in MMC mode, is read back
 --   made-locked-keeps        what is lent to a made locked card changes only by a granted forced erase
 --   made-unlocks-only        it is unlocked only by a granted forced erase or by an unlock with exactly the stored password: it has one, so
 --                            never by power-on
 -- Assumes nothing.
 use mathlib.Core.Path.{_≡_, subst}
-use mathlib.Core.Bool.{true, false}
+use mathlib.Core.Bool.{Bool, true, false}
 use mathlib.Core.List.{List}
 use mathlib.Core.Logic.{_⊎_, inl, inr}
 use Prim.Native.Nat.{ℕ, _≤_}
@@ -29,7 +29,7 @@ use Rattle.store.proofs.Sectors.{allowed-size}
 use Rattle.store.specs.Lent.{Lent, Seen, seen}
 use Rattle.stored.specs.Changes.{AwaitsWrite, ByteChanges, EntryChanges, ForcedErase}
 use Rattle.stored.specs.Locked.{LockedCard, UnlockGranted}
-use Rattle.stored.specs.ReadBack.{blockIn, storedThenRead, storedStoppedThenRead, Awaiting, ReadsBack}
+use Rattle.stored.specs.ReadBack.{blockIn, storedThenRead, storedStoppedThenRead, framedSector, Awaiting, ReadsBack}
 use Rattle.stored.proofs.Locked.{locked-keeps, unlocks-by-request}
 use Rattle.stored.proofs.ReadBack.{read-back, read-back-many}
 
@@ -63,10 +63,11 @@ module _ (card : Card) (made : Made card) where
       made-unlocks-only seen room =
           unlocks-by-request card call input seen room locked (omega (arith, made .lock .locked locked, stored-length (card .lock) (made .lock .bytes)))
 
-module _ (w : World) (block : List ℕ) (at : ℕ) (made : Made (w .card)) (output : List ℕ) (room : 514 ≤ length output)
-    (granted : outcomeOf w (blockIn block) ≡ Done) where
-  pub made-read-back : w .card .link .state ≡ Rcv (One at) → ReadsBack block (storedThenRead w block at) output
-  made-read-back on = read-back w block at (made-awaiting (w .card) made at (inl on)) output room on granted
+module _ (w : World) (block : List ℕ) (at : ℕ) (made : Made (w .card)) (output : List ℕ) (granted : outcomeOf w (blockIn block) ≡ Done) where
+  pub made-read-back : (spi : Bool) → w .card .mode .spi ≡ spi → framedSector spi ≤ length output → w .card .link .state ≡ Rcv (One at)
+      → ReadsBack spi block (storedThenRead spi w block at) output
+  made-read-back spi here room on = read-back spi w block at here (made-awaiting (w .card) made at (inl on)) output room on granted
 
-  pub made-read-back-many : w .card .link .state ≡ Rcv (Many at) → ReadsBack block (storedStoppedThenRead w block at) output
-  made-read-back-many on = read-back-many w block at (made-awaiting (w .card) made at (inr on)) output room on granted
+  pub made-read-back-many : w .card .mode .spi ≡ false → 514 ≤ length output → w .card .link .state ≡ Rcv (Many at)
+      → ReadsBack false block (storedStoppedThenRead w block at) output
+  made-read-back-many here room on = read-back-many w block at here (made-awaiting (w .card) made at (inr on)) output room on granted

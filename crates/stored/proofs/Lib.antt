@@ -8,4 +8,5 @@ pub mod Protected
 pub mod ReadBack
 pub mod Requests
 pub mod Runs
+pub mod Samples
 pub mod WrongAnswers

@@ -29,8 +29,7 @@ use Rattle.states.specs.declared.Incoming.the-variants.{LockRequest}
 use Rattle.states.specs.declared.State.the-variants.{Rcv}
 use Rattle.store.specs.Lent.{Lent, Seen, seen}
 use Rattle.store.specs.Map.{protectedIn}
-use Rattle.wire.specs.Blocks.{payloadOf}
-use Rattle.stored.specs.Changes.{AwaitsWrite, ProtectedByte, ByteChanges, ForcedErase, Cause, written, erased, forced}
+use Rattle.stored.specs.Changes.{AwaitsWrite, ProtectedByte, ByteChanges, payloadAt, ForcedErase, Cause, written, erased, forced}
 use Rattle.stored.proofs.Changes.{memory-changes}
 use Rattle.stored.proofs.Requests.{asks-erase}
 
@@ -69,7 +68,7 @@ module _ (card : Card) (block : List ℕ) (seen : Seen) where
   all-locked (stores incoming at w s right) e = clash cc
   all-locked (grants s a) e = clash cc
   all-locked (forces s a) e =
-      let asked = asks-erase (card .lock) (payloadOf block) (csdProtects (card .registers .csd)) a in (asked .1 .1, asked .1 .0)
+      let asked = asks-erase (card .lock) (payloadAt card block) (csdProtects (card .registers .csd)) a in (asked .1 .1, asked .1 .0)
 
   pub forced-locked : (call : Call) → ForcedErase card call block seen → (csdProtects (card .registers .csd) ≡ false) × (card .lock .locked ≡ true)
   forced-locked call f = all-locked (block-outcome card block seen) (f .granted)

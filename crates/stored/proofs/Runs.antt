@@ -1,6 +1,6 @@
--- What the commands of a run that reads do to an unlocked card.
---   Leaves            the state and the block length that a command leaves, and that nothing changes in what is lent
---   leaves-12, leaves-16, leaves-17    CMD12 in rcv, CMD16 of 512 in tran, CMD17 in tran at an aligned address in range
+-- What the commands of a run that reads do to an unlocked card, in MMC mode with the select line high and in SPI with it low.
+--   Leaves            the state, the block length and the mode that a command leaves, and that nothing changes in what is lent
+--   leaves-12, leaves-16, leaves-17    CMD12 in rcv (in MMC mode), CMD16 of 512 in tran, CMD17 in tran at an aligned address in range
 -- Assumes nothing.
 use mathlib.Core.Path.{_≡_, refl, sym, subst}
 use mathlib.Core.Bool.{Bool, true, false}
@@ -12,59 +12,79 @@ use Rattle.command.specs.Arguments.{argumentFault}
 use Rattle.command.specs.Command.{metBy, takenOf, commandOf}
 use Rattle.command.specs.Obey.{leaving, taggingOf, judgedOf, awaitedBy, obeyed, changeOf, afterChecks, actedOf}
 use Rattle.command.specs.declared.Change.the-variants.{Nothing}
-use Rattle.command.specs.declared.Commanded.{Commanded}
 use Rattle.command.specs.declared.Met.{Met}
 use Rattle.moves.specs.Moves.{moveOf}
 use Rattle.moves.specs.Rows.{transferRow, rowOf}
 use Rattle.lock.specs.Passwords.{flagged}
 use Rattle.card_record.specs.Record.{sizeOf, withState, withLock}
 use Rattle.card_record.specs.declared.Card.{Card}
+use Rattle.card_record.specs.declared.Mode.{Mode}
+use Rattle.spi.specs.Answers.{answeredIn}
+use Rattle.spi.specs.Hearing.{takenIn, spiHeard, heardOf}
+use Rattle.spi.specs.declared.Heard.{Heard}
+use Rattle.spi_moves.specs.Moves.{rowOf as rowInSpi, moveOf as moveInSpi}
 use Rattle.states.specs.declared.Incoming.{Incoming}
 use Rattle.states.specs.declared.Outgoing.the-variants.{One}
 use Rattle.states.specs.declared.State.{State}
 use Rattle.states.specs.declared.State.the-variants.{Tran, Data, Rcv, Prg}
 use Rattle.tags.specs.Tagging.{noTags}
 
-pub record Leaves (state : State) (length : ℕ) (given : Commanded) : Type 0 where
-  pub state-is : given .link .state ≡ state
-  pub length-is : given .link .length ≡ length
-  pub unchanged : given .change ≡ Nothing
+pub record Leaves (spi : Bool) (state : State) (length : ℕ) (heard : Heard) : Type 0 where
+  pub mode-is : heard .mode .spi ≡ spi
+  pub state-is : heard .link .state ≡ state
+  pub length-is : heard .link .length ≡ length
+  pub unchanged : heard .change ≡ Nothing
 
--- what a command meets at an unlocked card
+-- a command as a card hears it, its select line being low (`spi`) or high
+abbrev pub heardAt : Bool → Card → ℕ → ℕ → Heard
+heardAt spi card index argument = heardOf (card .mode) spi (card .link) (metBy card true) index argument
+
+-- what a command meets at an unlocked card, and such a card's mode
 abbrev open-met : Card → Bool → Met
 open-met card locked = metBy (withLock card (flagged (card .lock) locked)) true
 
--- a property of a command at an unlocked card with this state
-at-open : (P : Commanded → Type 0) (card : Card) (index argument : ℕ) (s : State) → card .lock .locked ≡ false → card .link .state ≡ s
-    → P (commandOf (withState (card .link) s) (open-met card false) index argument) → P (commandOf (card .link) (metBy card true) index argument)
-at-open P card index argument s l e h =
-    subst (λ (b : Bool). P (commandOf (card .link) (open-met card b) index argument)) (sym l)
-    (subst (λ (x : State). P (commandOf (withState (card .link) x) (open-met card false) index argument)) (sym e) h)
+abbrev modeOf : Card → Bool → Mode
+modeOf card spi = record { spi = spi; checks = card .mode .checks }
+
+-- the same where the mode is known, the card is unlocked, and the state is this one
+abbrev openly : Bool → Card → State → ℕ → ℕ → Heard
+openly spi card s index argument = heardOf (modeOf card spi) spi (withState (card .link) s) (open-met card false) index argument
+
+at-open : (P : Heard → Type 0) (spi : Bool) (card : Card) (index argument : ℕ) (s : State) → card .mode .spi ≡ spi → card .lock .locked ≡ false
+    → card .link .state ≡ s → P (openly spi card s index argument) → P (heardAt spi card index argument)
+at-open P spi card index argument s m l e h =
+    subst (λ (b : Bool). P (heardOf (modeOf card b) spi (card .link) (metBy card true) index argument)) (sym m)
+    (subst (λ (b : Bool). P (heardOf (modeOf card spi) spi (card .link) (open-met card b) index argument)) (sym l)
+    (subst (λ (x : State). P (heardOf (modeOf card spi) spi (withState (card .link) x) (open-met card false) index argument)) (sym e) h))
 
 module _ (card : Card) (unlocked : card .lock .locked ≡ false) where
-  stop : (incoming : Incoming) → Leaves Prg (card .link .length) (commandOf (withState (card .link) (Rcv incoming)) (open-met card false) 12 0)
-  unfolding commandOf rowOf moveOf takenOf actedOf judgedOf taggingOf argumentFault afterChecks answered obeyed awaitedBy changeOf
-  stop incoming = record { state-is = refl; length-is = refl; unchanged = refl }
+  stop : (incoming : Incoming) → Leaves false Prg (card .link .length) (openly false card (Rcv incoming) 12 0)
+  unfolding heardOf commandOf rowOf moveOf takenOf actedOf judgedOf taggingOf argumentFault afterChecks answered obeyed awaitedBy changeOf
+  stop incoming = record { mode-is = refl; state-is = refl; length-is = refl; unchanged = refl }
 
-  size : Leaves Tran 512 (commandOf (withState (card .link) Tran) (open-met card false) 16 512)
-  unfolding commandOf rowOf transferRow moveOf takenOf actedOf judgedOf taggingOf argumentFault afterChecks answered obeyed awaitedBy changeOf
-  size = record { state-is = refl; length-is = refl; unchanged = refl }
+  size : (spi : Bool) → Leaves spi Tran 512 (openly spi card Tran 16 512)
+  unfolding heardOf spiHeard rowInSpi moveInSpi takenIn answeredIn commandOf rowOf transferRow moveOf takenOf actedOf judgedOf taggingOf argumentFault afterChecks answered obeyed awaitedBy changeOf
+  size true = record { mode-is = refl; state-is = refl; length-is = refl; unchanged = refl }
+  size false = record { mode-is = refl; state-is = refl; length-is = refl; unchanged = refl }
 
-  pub leaves-12 : (incoming : Incoming) → card .link .state ≡ Rcv incoming → Leaves Prg (card .link .length) (commandOf (card .link) (metBy card true) 12 0)
-  leaves-12 incoming e =
-      at-open (Leaves Prg (card .link .length)) card 12 0 (Rcv incoming) unlocked e (stop incoming)
+  pub leaves-12 : (incoming : Incoming) → card .mode .spi ≡ false → card .link .state ≡ Rcv incoming
+      → Leaves false Prg (card .link .length) (heardAt false card 12 0)
+  leaves-12 incoming m e =
+      at-open (Leaves false Prg (card .link .length)) false card 12 0 (Rcv incoming) m unlocked e (stop incoming)
 
-  pub leaves-16 : card .link .state ≡ Tran → Leaves Tran 512 (commandOf (card .link) (metBy card true) 16 512)
-  leaves-16 e = at-open (Leaves Tran 512) card 16 512 Tran unlocked e size
+  module _ (spi : Bool) (mode : card .mode .spi ≡ spi) where
+    pub leaves-16 : card .link .state ≡ Tran → Leaves spi Tran 512 (heardAt spi card 16 512)
+    leaves-16 e = at-open (Leaves spi Tran 512) spi card 16 512 Tran mode unlocked e (size spi)
 
-  module _ (at : ℕ) (in-range : at + 512 ≤ sizeOf (card .registers .groups)) (aligned : at % 512 ≡ 0) where
-    no-fault : card .link .length ≡ 512 → judgedOf (withState (card .link) Tran) (card .registers .groups) false 17 at ≡ leaving noTags
-    unfolding judgedOf taggingOf argumentFault
-    no-fault n = rw n (simp (le-leb (at + 512) (sizeOf (card .registers .groups)) in-range, le-ltb 2048 (at % 2048 + 512) (omega arith)))
+    module _ (at : ℕ) (in-range : at + 512 ≤ sizeOf (card .registers .groups)) (aligned : at % 512 ≡ 0) where
+      no-fault : card .link .length ≡ 512 → judgedOf (withState (card .link) Tran) (card .registers .groups) false 17 at ≡ leaving noTags
+      unfolding judgedOf taggingOf argumentFault
+      no-fault n = rw n (simp (le-leb (at + 512) (sizeOf (card .registers .groups)) in-range, le-ltb 2048 (at % 2048 + 512) (omega arith)))
 
-    read : card .link .length ≡ 512 → Leaves (Data (One at)) 512 (commandOf (withState (card .link) Tran) (open-met card false) 17 at)
-    unfolding commandOf rowOf transferRow moveOf takenOf actedOf afterChecks answered obeyed awaitedBy changeOf
-    read n = rw (no-fault n) (record { state-is = refl; length-is = n; unchanged = refl })
+      read : (b : Bool) → card .link .length ≡ 512 → Leaves b (Data (One at)) 512 (openly b card Tran 17 at)
+      unfolding heardOf spiHeard rowInSpi moveInSpi takenIn answeredIn commandOf rowOf transferRow moveOf takenOf actedOf afterChecks answered obeyed awaitedBy changeOf
+      read true n = rw (no-fault n) (record { mode-is = refl; state-is = refl; length-is = n; unchanged = refl })
+      read false n = rw (no-fault n) (record { mode-is = refl; state-is = refl; length-is = n; unchanged = refl })
 
-    pub leaves-17 : card .link .state ≡ Tran → card .link .length ≡ 512 → Leaves (Data (One at)) 512 (commandOf (card .link) (metBy card true) 17 at)
-    leaves-17 e n = at-open (Leaves (Data (One at)) 512) card 17 at Tran unlocked e (read n)
+      pub leaves-17 : card .link .state ≡ Tran → card .link .length ≡ 512 → Leaves spi (Data (One at)) 512 (heardAt spi card 17 at)
+      leaves-17 e n = at-open (Leaves spi (Data (One at)) 512) spi card 17 at Tran mode unlocked e (read spi n)

@@ -1,4 +1,5 @@
--- Document 01, "Reading, writing, erasing, locking": why a byte of the lent memory, or an entry of the lent map, may change in one step.
+-- Document 01, "Reading, writing, erasing, locking": why a byte of the lent memory, or an entry of the lent map, may change in one step. Document
+-- 02, request 1: "Reads, writes, erase, protection and lock are shared and proved once for both modes".
 -- Assumes nothing.
 use mathlib.Core.Path.{_≡_}
 use mathlib.Core.Bool.{Bool, true, false}
@@ -8,6 +9,7 @@ use Prim.Native.Nat.{ℕ, _/_}
 use lib.ListN.{getD}
 use Rattle.base.specs.Sizes.{sectorSize, protectionGroupSize}
 use Rattle.card_blocks.specs.BlockIn.{blockJudged}
+use Rattle.card_blocks.specs.Framing.{unstarted}
 use Rattle.card.specs.Frame.{frameJudged}
 use Rattle.card.specs.Step.{stepOf, lentAfter}
 use Rattle.card.specs.declared.Call.{Call}
@@ -23,8 +25,9 @@ use Rattle.store.specs.Lent.{Lent, Seen}
 use Rattle.store.specs.Map.{protectedIn}
 use Rattle.tags.specs.Tags.{taggedOf}
 use Rattle.wire.specs.Blocks.{payloadOf}
-use Rattle.wire.specs.Frames.{frameOf}
-use Rattle.wire.specs.declared.Frame.the-variants.{Command}
+use Rattle.spi.specs.Hearing.{crcPasses}
+use Rattle.wire.specs.Frames.{framingOf}
+use Rattle.wire.specs.declared.Framing.the-variants.{Framed}
 
 -- "the rcv state says whether it awaits one block, many .., and from which address"
 abbrev pub AwaitsWrite : Card → ℕ → Type 0
@@ -41,6 +44,18 @@ ByteChanges card call input lent p = getD (lentAfter card call input lent .memor
 abbrev pub EntryChanges : Card → Call → List ℕ → Lent → ℕ → Type 0
 EntryChanges card call input lent group = getD (lentAfter card call input lent .map) group 0 ≡ getD (lent .map) group 0 → ⊥
 
+-- a frame that a card hears as a command. In MMC mode its CRC7 is right, that is `frameOf frame ≡ Command index argument` (`read-in-mmc`); in
+-- SPI "3 (CMD0 apart) .. come[s] only with CRC on", and "a frame with the line high is ignored"
+pub record HeardAs (card : Card) (selected : Bool) (frame : List ℕ) (index argument : ℕ) : Type 0 where
+  pub right : Bool
+  pub framing : framingOf frame ≡ Framed index argument right
+  pub crc : crcPasses (card .mode) index right ≡ true
+  pub low : card .mode .spi ≡ true → selected ≡ true
+
+-- the payload of a block in: in SPI it stands behind the start byte
+abbrev pub payloadAt : Card → List ℕ → List ℕ
+payloadAt card block = payloadOf (unstarted (card .mode .spi) block)
+
 -- one call at a card: its record, the call, the input, and what it sees of what is lent
 module _ (card : Card) (call : Call) (input : List ℕ) (seen : Seen) where
   -- "A good block is stored": the card awaited a write from this address on, and the block in was carried out
@@ -52,10 +67,11 @@ module _ (card : Card) (call : Call) (input : List ℕ) (seen : Seen) where
   -- "CMD38 .. fills every tagged sector outside protection": CMD38, taken without an error, and the sector is one that it fills
   pub record ErasedByTag (sector : ℕ) : Type 0 where
     pub wins : Bool
-    pub called : call ≡ Frame wins
+    pub selected : Bool
+    pub called : call ≡ Frame wins selected
     pub argument : ℕ
-    pub command : frameOf input ≡ Command 38 argument
-    pub taken : frameJudged card wins input seen .change ≡ Erase
+    pub command : HeardAs card selected input 38 argument
+    pub taken : frameJudged card wins selected input seen .change ≡ Erase
     pub tagged : taggedOf (card .link .tags) sector ≡ true
     pub unprotected : protectedIn (seen .map) (csdProtects (card .registers .csd)) sector ≡ false
 
@@ -63,7 +79,7 @@ module _ (card : Card) (call : Call) (input : List ℕ) (seen : Seen) where
   pub record ForcedErase : Type 0 where
     pub called : call ≡ BlockIn
     pub awaited : card .link .state ≡ Rcv LockRequest
-    pub forced : getD (payloadOf input) 0 0 ≡ 8
+    pub forced : getD (payloadAt card input) 0 0 ≡ 8
     pub granted : blockJudged card input seen .storing ≡ All
 
   -- why a byte of a sector may change
@@ -73,16 +89,18 @@ module _ (card : Card) (call : Call) (input : List ℕ) (seen : Seen) where
     forced : ForcedErase → Cause sector
 
   -- a command, taken without an error, that sets a group or clears it
-  abbrev pub SetBy : Bool → ℕ → Bool → ℕ → ℕ → Type 0
-  SetBy wins index on argument group = (frameOf input ≡ Command index argument) × (frameJudged card wins input seen .change ≡ Protect group on)
+  abbrev pub SetBy : Bool → Bool → ℕ → Bool → ℕ → ℕ → Type 0
+  SetBy wins selected index on argument group =
+      HeardAs card selected input index argument × (frameJudged card wins selected input seen .change ≡ Protect group on)
 
   -- "CMD28, 29: set, clear the addressed group": CMD28 sets and CMD29 clears, at an address in the group
   pub record ProtectionSet (group : ℕ) : Type 0 where
     pub wins : Bool
-    pub called : call ≡ Frame wins
+    pub selected : Bool
+    pub called : call ≡ Frame wins selected
     pub argument : ℕ
     pub addressed : group ≡ argument / protectionGroupSize
-    pub taken : SetBy wins 28 true argument group ⊎ SetBy wins 29 false argument group
+    pub taken : SetBy wins selected 28 true argument group ⊎ SetBy wins selected 29 false argument group
 
   -- why a group's entry of the map may change
   pub data MapCause (group : ℕ) : Type 0 where

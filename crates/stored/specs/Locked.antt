@@ -1,4 +1,5 @@
--- Document 01, "How a card takes a frame" and "Reading, writing, erasing, locking": what a locked card lets happen.
+-- Document 01, "How a card takes a frame" and "Reading, writing, erasing, locking": what a locked card lets happen, in MMC
+-- mode and in SPI.
 -- Assumes nothing.
 use mathlib.Core.Path.{_≡_}
 use mathlib.Core.Bool.{Bool, true}
@@ -15,8 +16,7 @@ use Rattle.card_record.specs.declared.Card.{Card}
 use Rattle.states.specs.declared.Incoming.the-variants.{LockRequest}
 use Rattle.states.specs.declared.State.the-variants.{Rcv}
 use Rattle.store.specs.Lent.{Lent, Seen, seen}
-use Rattle.wire.specs.Blocks.{payloadOf}
-use Rattle.stored.specs.Changes.{AwaitsWrite, ForcedErase}
+use Rattle.stored.specs.Changes.{AwaitsWrite, payloadAt, ForcedErase}
 
 -- a locked card that awaits no write: "Locked: only class 0 and CMD42 go on", so none of a locked card's commands makes it await one
 pub record LockedCard (card : Card) : Type 0 where
@@ -27,9 +27,9 @@ pub record LockedCard (card : Card) : Type 0 where
 pub record UnlockGranted (card : Card) (call : Call) (input : List ℕ) (seen : Seen) : Type 0 where
   pub called : call ≡ BlockIn
   pub awaited : card .link .state ≡ Rcv LockRequest
-  pub unlock : getD (payloadOf input) 0 0 ≡ 0
+  pub unlock : getD (payloadAt card input) 0 0 ≡ 0
   pub some : 1 ≤ length (stored (card .lock))
-  pub password : passwordIn (payloadOf input) ≡ stored (card .lock)
+  pub password : passwordIn (payloadAt card input) ≡ stored (card .lock)
   pub granted : (room : ℕ) → stepOf card call input seen room .reply .outcome ≡ Done
 
 -- why a locked card may be unlocked afterwards: "Power-on: .. locked exactly if a password is stored"; "A locked card grants only 0 and 8"
@@ -38,9 +38,10 @@ pub data Unlocking (card : Card) (call : Call) (input : List ℕ) (seen : Seen) 
   forced : ForcedErase card call input seen → Unlocking card call input seen
   unlocked : UnlockGranted card call input seen → Unlocking card call input seen
 
--- "others answer R1 with bit 24, no move": a frame leaves state, address and block length as they were, and every byte that is lent
-pub record Unmoved (card : Card) (wins : Bool) (frame : List ℕ) (lent : Lent) (room : ℕ) : Type 0 where
-  pub state : stepOf card (Frame wins) frame (seen lent) room .card .link .state ≡ card .link .state
-  pub address : stepOf card (Frame wins) frame (seen lent) room .card .link .address ≡ card .link .address
-  pub length-kept : stepOf card (Frame wins) frame (seen lent) room .card .link .length ≡ card .link .length
-  pub lent-kept : lentAfter card (Frame wins) frame lent ≡ lent
+-- "others answer R1 with bit 24, no move": a frame leaves state, address, block length and mode as they were, and every byte that is lent
+pub record Unmoved (card : Card) (wins selected : Bool) (frame : List ℕ) (lent : Lent) (room : ℕ) : Type 0 where
+  pub state : stepOf card (Frame wins selected) frame (seen lent) room .card .link .state ≡ card .link .state
+  pub address : stepOf card (Frame wins selected) frame (seen lent) room .card .link .address ≡ card .link .address
+  pub length-kept : stepOf card (Frame wins selected) frame (seen lent) room .card .link .length ≡ card .link .length
+  pub mode-kept : stepOf card (Frame wins selected) frame (seen lent) room .card .mode ≡ card .mode
+  pub lent-kept : lentAfter card (Frame wins selected) frame lent ≡ lent

@@ -1,12 +1,14 @@
--- Document 01, "Reading, writing, erasing, locking": a block that is stored, and read again.
+-- Document 01, "Reading, writing, erasing, locking": a block that is stored, and read again; and document 02, request 1: the same in SPI. `spi`
+-- says that the card is in SPI.
 -- Assumes nothing.
 use mathlib.Core.Path.{_≡_}
-use mathlib.Core.Bool.{true, false}
+use mathlib.Core.Bool.{Bool, true, false}
 use mathlib.Core.List.{List, []}
 use Prim.Native.Nat.{ℕ, _+_, _/_, _%_, _^_, _≤_, _<_}
 use lib.ListN.{take}
 use Rattle.base.specs.Sizes.{sectorSize}
 use Rattle.card.specs.declared.Call.the-variants.{Frame, BlockIn, BlockOut, WorkDone}
+use Rattle.card_blocks.specs.Framing.{beside, unstarted, withStart}
 use Rattle.card_blocks.specs.declared.Outcome.the-variants.{Wrote}
 use Rattle.card_record.specs.Record.{sizeOf, csdProtects}
 use Rattle.card_record.specs.declared.Card.{Card}
@@ -17,10 +19,10 @@ use Rattle.store.specs.declared.Lending.the-variants.{Right}
 use Rattle.wire.specs.Blocks.{blockOf}
 use Rattle.wire.specs.Frames.{commandFrame}
 
--- a command of an index and an argument, as its frame, at a card that is alone on its line. (No command of a run that reads asks who wins:
--- `verdict-unread` of demands)
-abbrev pub commanded : World → ℕ → ℕ → World
-commanded w index argument = next w (given (Frame true) (commandFrame index argument))
+-- a command of an index and an argument, as its frame, at a card that is alone on its line: its select line is low for a card in SPI, and high
+-- for one in MMC mode. (No command of a run that reads asks who wins: `verdict-unread` of demands)
+abbrev pub commanded : Bool → World → ℕ → ℕ → World
+commanded spi w index argument = next w (given (Frame true spi) (commandFrame index argument))
 
 -- a block in, and a block out that is lent an output
 abbrev pub blockIn : List ℕ → Input
@@ -30,16 +32,16 @@ abbrev pub blockOut : List ℕ → Input
 blockOut output = record { call = BlockOut; bytes = []; output = output }
 
 -- work done; CMD16 sets the block length to 512; CMD17 reads at the address
-unfoldable pub readAgain : World → ℕ → World
-readAgain w at = commanded (commanded (next w (given WorkDone [])) 16 sectorSize) 17 at
+unfoldable pub readAgain : Bool → World → ℕ → World
+readAgain spi w at = commanded spi (commanded spi (next w (given WorkDone [])) 16 sectorSize) 17 at
 
 -- "A good block is stored; CMD24 goes to prg"
-abbrev pub storedThenRead : World → List ℕ → ℕ → World
-storedThenRead w block at = readAgain (next w (blockIn block)) at
+abbrev pub storedThenRead : Bool → World → List ℕ → ℕ → World
+storedThenRead spi w block at = readAgain spi (next w (blockIn block)) at
 
--- "CMD25 stays", and "12: .. rcv to prg"
+-- "CMD25 stays", and "12: .. rcv to prg", in MMC mode: in SPI both "are illegal"
 abbrev pub storedStoppedThenRead : World → List ℕ → ℕ → World
-storedStoppedThenRead w block at = readAgain (commanded (next w (blockIn block)) 12 0) at
+storedStoppedThenRead w block at = readAgain false (commanded false (next w (blockIn block)) 12 0) at
 
 -- what is known of a card that awaits a write at an address: "Locked: only class 0 and CMD42 go on"; "CMD24, 25: .. aligned to 512 (30)";
 -- and an address is an argument, of 32 bits. That the block lies in memory need not be known: one that does not is refused 18
@@ -54,7 +56,12 @@ pub record Writable (w : World) (at : ℕ) : Type 0 where
   pub in-range : at + sectorSize ≤ sizeOf (w .card .registers .groups)
   pub free : protectedIn (w .lent .map) (csdProtects (w .card .registers .csd)) (at / sectorSize) ≡ false
 
--- then 514 bytes go out, and stand at the front of the lent output: the block's 512 bytes and their CRC16
-pub record ReadsBack (block : List ℕ) (w : World) (output : List ℕ) : Type 0 where
-  pub wrote : outcomeOf w (blockOut output) ≡ Wrote 514
-  pub front : take 514 (outputAfter w (blockOut output)) ≡ blockOf (take sectorSize block)
+-- the bytes of a framed sector: 514, and in SPI 515
+abbrev pub framedSector : Bool → ℕ
+framedSector spi = sectorSize + beside spi
+
+-- then 514 bytes go out, and stand at the front of the lent output: the block's 512 bytes and their CRC16. In SPI the block that came in and the
+-- one that goes out have the start byte before them, and 515 bytes go out
+pub record ReadsBack (spi : Bool) (block : List ℕ) (w : World) (output : List ℕ) : Type 0 where
+  pub wrote : outcomeOf w (blockOut output) ≡ Wrote (framedSector spi)
+  pub front : take (framedSector spi) (outputAfter w (blockOut output)) ≡ withStart spi (blockOf (take sectorSize (unstarted spi block)))

@@ -7,7 +7,7 @@ use Rattle.card_record.proofs.refused_make.Tie as tie
 
 returns : tie.Need-returns
 unfolding refusedMake
-returns c = simp (c .no-tags .ensures, c .before .none .ensures, c .before .before .no-password .ensures)
+returns c = simp (c .mmc-mode .ensures, c .before .no-tags .ensures, c .before .before .none .ensures, c .before .before .before .no-password .ensures)
 
 pub refused-make-spec : {M : Type 1} → statement M
-refused-make-spec = tie.close (tie.spec (λ c κs. search needs) (λ c κs. search needs) (λ c κs. search needs) returns)
+refused-make-spec = tie.close (tie.spec (λ c κs. search needs) (λ c κs. search needs) (λ c κs. search needs) (λ c κs. search needs) returns)

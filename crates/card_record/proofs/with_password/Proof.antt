@@ -21,10 +21,10 @@ answered registers password e = ap (lockedBy registers (lockMadeOf password .loc
 
 returns : tie.Need-returns
 returns c =
-    let m = c .before .before .before .before in
+    let m = c .before .before .before .before .before in
     let a = m .before .before .args in
-    simp (c .fresh .ensures, m .make .ensures)
-    (answered (a .registers) (now (a .password)) (ap (λ (x : LockMade). x .making) (sym (m .make .ensures)) ∙ c .before .enum-told .given .1))
+    simp (c .mmc-mode .ensures, c .before .fresh .ensures, m .make .ensures)
+    (answered (a .registers) (now (a .password)) (ap (λ (x : LockMade). x .making) (sym (m .make .ensures)) ∙ c .before .before .enum-told .given .1))
 
 returns-2 : tie.Need-returns-2
 returns-2 c =
@@ -39,6 +39,7 @@ with-password-spec =
     (tie.spec
     (λ c κs. search needs)
     (λ c. search needs)
+    (λ c κs. search needs)
     (λ c κs. search needs)
     (λ c. search needs)
     (λ c κs. search needs)

@@ -7,7 +7,9 @@ use Rattle.measured_bus.proofs.ready_card.Tie as tie
 
 returns : tie.Need-returns
 unfolding readyCard
-returns c = simp (c .before .before .no-password .ensures, c .before .before .before .fresh .ensures)
+returns c =
+    let at-password = c .before .before .before in
+    simp (c .mmc-mode .ensures, at-password .no-password .ensures, at-password .before .fresh .ensures)
 
 pub ready-card-spec : {M : Type 1} → statement M
-ready-card-spec = tie.close (tie.spec (λ c κs. search needs) (λ c κs. search needs) returns)
+ready-card-spec = tie.close (tie.spec (λ c κs. search needs) (λ c κs. search needs) (λ c κs. search needs) returns)

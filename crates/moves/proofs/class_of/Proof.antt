@@ -39,11 +39,13 @@ class-of-spec =
     (λ c.
     let i = c .before .before .before .before .before .before .before .before .before .args .index in
     let rest = c .before .before .before .before .before .before .before .before .match .rest in
-    but classesNumbered classOf Unsupported (38 ∷ 42 ∷ []) 37 219 tt i (simp (ne-eqb i 38 (rest .0 .1), ne-eqb i 42 (rest .1))) (omega arith) (omega arith))
+    but classesNumbered classOf Unsupported (38 ∷ 42 ∷ []) 37 21 tt i (simp (ne-eqb i 38 (rest .0 .1), ne-eqb i 42 (rest .1))) (omega arith) (omega arith))
+    (λ c. search (needs, all classesNumbered classOf Unsupported 60 196 tt))
     (λ c. simp (c .match .keys2))
     (λ c. search (needs, all classesNumbered classOf Erase 32 2 tt))
     (λ c. search (needs, all classesNumbered classOf Erase 35 2 tt))
     (λ c. ⊎-elim (λ (e : c .before .args .index ≡ 7). simp e) (λ (e : c .before .args .index ≡ 15). simp e) (c .match .keys1))
     (λ c. search (needs, all classesNumbered classOf Basic 0 5 tt))
     (λ c. search (needs, all classesNumbered classOf Basic 9 2 tt))
-    (λ c. search (needs, all classesNumbered classOf Basic 12 2 tt)))
+    (λ c. search (needs, all classesNumbered classOf Basic 12 2 tt))
+    (λ c. search (needs, all classesNumbered classOf Basic 58 2 tt)))

@@ -1,4 +1,4 @@
--- `card::frames::damaged` meets its contract: the link is the one that `command` gives.
+-- `card::frames::damaged` meets its contract: link, mode and answer are those that `spi` gives.
 -- Assumes nothing.
 use borrow.Author.Needs.{needs}
 use Rattle.card.proofs.frames.damaged.Statement.{statement}
@@ -9,4 +9,4 @@ damaged-spec =
     tie.close
     (tie.spec
     (λ c κs. search needs)
-    (λ c. simp (c .before .before .damaged .ensures)))
+    (λ c. simp (c .before .before .before .before .damaged .ensures)))

@@ -17,17 +17,17 @@ use Rattle.card.specs.Frame.{FrameJudged, frameRefused, framed, frameJud
 use Rattle.card.proofs.frames.frame.Statement.{statement}
 use Rattle.card.proofs.frames.frame.Tie as tie
 
-module _ (card : Card) (wins : Bool) (frame : List ℕ) (seen : Seen) where
+module _ (card : Card) (wins selected : Bool) (frame : List ℕ) (seen : Seen) where
   judged : {lending : Lending} → lendingOf seen (card .registers .groups) ≡ lending
-      → onceLent lending (frameRefused card) (framed card wins (framingOf frame)) ≡ frameJudged card wins frame seen
+      → onceLent lending (frameRefused card) (framed card wins selected (framingOf frame)) ≡ frameJudged card wins selected frame seen
   unfolding frameJudged
-  judged e = sym (ap (λ (x : Lending). onceLent x (frameRefused card) (framed card wins (framingOf frame))) e)
+  judged e = sym (ap (λ (x : Lending). onceLent x (frameRefused card) (framed card wins selected (framingOf frame))) e)
 
   heard : {framing : Framing} → framing ≡ framingOf frame → lendingOf seen (card .registers .groups) ≡ Right
-      → framed card wins framing ≡ frameJudged card wins frame seen
-  heard f e = ap (framed card wins) f ∙ judged e
+      → framed card wins selected framing ≡ frameJudged card wins selected frame seen
+  heard f e = ap (framed card wins selected) f ∙ judged e
 
-  unheard : {refusal : Refusal} → lendingOf seen (card .registers .groups) ≡ Refused refusal → frameRefused card refusal ≡ frameJudged card wins frame seen
+  unheard : {refusal : Refusal} → lendingOf seen (card .registers .groups) ≡ Refused refusal → frameRefused card refusal ≡ frameJudged card wins selected frame seen
   unheard e = judged e
 
 returns : tie.Need-returns
@@ -39,7 +39,7 @@ returns c =
     let a = l .before .before .before .before .before .before .args in
     let m = now (a .memory) in
     let p = now (a .map) in
-    let j = heard (a .card) (a .wins) (now (a .frame)) (seen (lentOf m p)) (u .unframe .ensures) (sym (l .lent-check .ensures) ∙ u .before .enum-told .given .1) in (
+    let j = heard (a .card) (a .wins) (a .selected) (now (a .frame)) (seen (lentOf m p)) (u .unframe .ensures) (sym (l .lent-check .ensures) ∙ u .before .enum-told .given .1) in (
       k .framed .ensures .0 ∙ ap (frameTold (a .card) (seen (lentOf m p))) j,
       k .framed .ensures .1 ∙ ap (λ (x : FrameJudged). changedBy (a .card) (x .change) (lentOf m p)) j,
     )
@@ -52,7 +52,7 @@ returns-2 c =
     let a = l .before .before .before .before .before .before .args in
     let m = now (a .memory) in
     let p = now (a .map) in
-    let j = unheard (a .card) (a .wins) (now (a .frame)) (seen (lentOf m p)) (sym (l .lent-check .ensures) ∙ t .lending .given .1) in (
+    let j = unheard (a .card) (a .wins) (a .selected) (now (a .frame)) (seen (lentOf m p)) (sym (l .lent-check .ensures) ∙ t .lending .given .1) in (
       c .refuse .ensures ∙ ap (frameTold (a .card) (seen (lentOf m p))) j,
       ap (λ (x : FrameJudged). changedBy (a .card) (x .change) (lentOf m p)) j,
     )

@@ -7,7 +7,7 @@ use Rattle.card_blocks.proofs.blocks_in.block_good.Tie as tie
 
 returns : tie.Need-returns
 unfolding blockGood
-returns c = simp (c .done .ensures)
+returns c = simp (c .reply .ensures)
 
 pub block-good-spec : {M : Type 1} → statement M
 block-good-spec =

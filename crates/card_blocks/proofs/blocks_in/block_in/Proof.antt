@@ -9,6 +9,7 @@ use Rattle.card_record.specs.declared.Card.{Card}
 use Rattle.store.specs.Lent.{Lent, lentOf, seen, lendingOf, onceLent}
 use Rattle.store.specs.declared.Lending.{Lending}
 use Rattle.card_blocks.specs.BlockIn.{unread, stateJudged, blockJudged, storedBy}
+use Rattle.card_blocks.specs.Framing.{unstarted}
 use Rattle.card_blocks.specs.declared.BlockJudged.{BlockJudged}
 use Rattle.card_blocks.proofs.blocks_in.block_in.Statement.{statement}
 use Rattle.card_blocks.proofs.blocks_in.block_in.Tie as tie
@@ -27,7 +28,7 @@ returns c =
     let lent = lentOf (now (a .memory)) (now (a .map)) in
     let j = judged (a .card) (now (a .block)) lent (sym (l .lent-check .ensures) ∙ t .enum-told .given .1) in (
       k .taken-in .ensures .0 ∙ ap (λ (x : BlockJudged). x .stepped) j,
-      k .taken-in .ensures .1 ∙ ap (λ (x : BlockJudged). storedBy (now (a .block)) (x .storing) lent) j,
+      k .taken-in .ensures .1 ∙ ap (λ (x : BlockJudged). storedBy (unstarted (a .card .mode .spi) (now (a .block))) (x .storing) lent) j,
     )
 
 returns-2 : tie.Need-returns-2
@@ -38,7 +39,7 @@ returns-2 c =
     let lent = lentOf (now (a .memory)) (now (a .map)) in
     let j = judged (a .card) (now (a .block)) lent (sym (l .lent-check .ensures) ∙ t .lending .given .1) in (
       c .refuse .ensures ∙ ap (λ (x : BlockJudged). x .stepped) j,
-      ap (λ (x : BlockJudged). storedBy (now (a .block)) (x .storing) lent) j,
+      ap (λ (x : BlockJudged). storedBy (unstarted (a .card .mode .spi) (now (a .block))) (x .storing) lent) j,
     )
 
 pub block-in-spec : {M : Type 1} → statement M

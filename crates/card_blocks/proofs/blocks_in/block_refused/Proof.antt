@@ -7,7 +7,9 @@ use Rattle.card_blocks.proofs.blocks_in.block_refused.Tie as tie
 
 returns : tie.Need-returns
 unfolding blockRefused
-returns c = simp (c .refuse .ensures, c .before .before .before .before .with-fault .ensures, c .before .before .before .before .before .after-refused .ensures)
+returns c =
+    let f = c .before .before .before .before .before in
+    simp (c .reply .ensures, f .with-fault .ensures, f .before .after-refused .ensures)
 
 pub block-refused-spec : {M : Type 1} → statement M
 block-refused-spec =

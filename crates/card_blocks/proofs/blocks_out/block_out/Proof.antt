@@ -27,10 +27,11 @@ returns c =
     let lent = lentOf (now (a .memory)) (now (a .map)) in
     let j = judged (a .card) lent (length (now (a .out))) (sym (l .lent-check .ensures) ∙ t .enum-told .given .1) in (
       k .given-out .ensures .0 ∙ ap (λ (x : OutJudged). x .stepped) j,
-      k .given-out .ensures .1 ∙ ap (λ (x : OutJudged). sentOut lent (x .sending) (now (a .out))) j,
+      k .given-out .ensures .1 ∙ ap (λ (x : OutJudged). sentOut (a .card) lent (x .sending) (now (a .out))) j,
     )
 
 returns-2 : tie.Need-returns-2
+unfolding sentOut
 returns-2 c =
     let t = c .before .before in
     let l = t .before .before in
@@ -38,7 +39,7 @@ returns-2 c =
     let lent = lentOf (now (a .memory)) (now (a .map)) in
     let j = judged (a .card) lent (length (now (a .out))) (sym (l .lent-check .ensures) ∙ t .lending .given .1) in (
       c .refuse .ensures ∙ ap (λ (x : OutJudged). x .stepped) j,
-      ap (λ (x : OutJudged). sentOut lent (x .sending) (now (a .out))) j,
+      ap (λ (x : OutJudged). sentOut (a .card) lent (x .sending) (now (a .out))) j,
     )
 
 pub block-out-spec : {M : Type 1} → statement M

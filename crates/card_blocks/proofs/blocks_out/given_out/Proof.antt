@@ -16,7 +16,7 @@ returns c =
     let a = j .before .before .before .before .before .args in (
       ap (λ (x : OutJudged). x .stepped) (j .state-sends .ensures),
       s .send .ensures
-          ∙ ap (λ (x : OutJudged). sentOut (lentOf (now (a .memory)) (now (a .map))) (x .sending) (now (a .out))) (j .state-sends .ensures),
+          ∙ ap (λ (x : OutJudged). sentOut (a .card) (lentOf (now (a .memory)) (now (a .map))) (x .sending) (now (a .out))) (j .state-sends .ensures),
     )
 
 pub given-out-spec : {M : Type 1} → statement M

@@ -1,4 +1,4 @@
--- `card_blocks::blocks_out::outgoing_judged` meets its contract: a part of memory or the protection bits, as the state has it.
+-- `card_blocks::blocks_out::outgoing_judged` meets its contract: a part of memory, the protection bits or a register, as the state has it.
 -- Assumes nothing.
 use borrow.Author.Needs.{needs}
 use Rattle.card_blocks.proofs.blocks_out.outgoing_judged.Statement.{statement}
@@ -21,6 +21,12 @@ outgoing-judged-spec =
     (λ c κs. search needs)
     (λ c. search needs)
     (λ c κs. search needs)
+    (λ c. search needs)
+    (λ c κs. search needs)
+    (λ c. search needs)
+    (λ c κs. search needs)
     returns
     returns-2
-    (λ c. simp (c .protection-judged .ensures, c .before .before .outgoing3 .given .1)))
+    (λ c. simp (c .bytes-judged .ensures, c .before .before .outgoing3 .given .1))
+    (λ c. simp (c .bytes-judged2 .ensures, c .before .enum-told .given .1))
+    (λ c. simp (c .bytes-judged3 .ensures, c .before .enum-told2 .given .1)))

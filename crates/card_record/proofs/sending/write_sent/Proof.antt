@@ -43,6 +43,34 @@ returns-5 c =
     let e = w .before .before .enum-told4 .given .1 in
     (simp e (w .write-r3 .ensures .0), simp e (w .write-r3 .ensures .1))
 
+returns-6 : tie.Need-returns-6
+unfolding sentBytes sentWritten
+returns-6 c =
+    let w = c .before .before in
+    let e = w .before .before .before .before .sent2 .given .1 in
+    (simp e (w .lay .ensures .0), simp e (w .lay .ensures .1))
+
+returns-7 : tie.Need-returns-7
+unfolding sentBytes sentWritten
+returns-7 c =
+    let w = c .before .before in
+    let e = w .before .before .before .before .sent3 .given .1 in
+    (simp e (w .lay2 .ensures .0), simp e (w .lay2 .ensures .1))
+
+returns-8 : tie.Need-returns-8
+unfolding sentBytes sentWritten
+returns-8 c =
+    let w = c .before .before in
+    let e = w .before .before .before .sent4 .given .1 in
+    (simp e (w .write-spi-r3 .ensures .0), simp e (w .write-spi-r3 .ensures .1))
+
+returns-9 : tie.Need-returns-9
+unfolding sentBytes sentWritten
+returns-9 c =
+    let w = c .before .before in
+    let e = w .before .before .before .before .sent5 .given .1 in
+    (simp e (w .lay3 .ensures .0), simp e (w .lay3 .ensures .1))
+
 pub write-sent-spec : {M : Type 1} → statement M
 write-sent-spec =
     tie.close
@@ -56,6 +84,17 @@ write-sent-spec =
     (λ c κs. search needs)
     (λ c. search needs)
     (λ c κs. search needs)
+    (λ c. search needs)
+    (λ c. search needs)
+    (λ c κs. search needs)
+    (λ c. search needs)
+    (λ c. search needs)
+    (λ c κs. search needs)
+    (λ c. search needs)
+    (λ c κs. search needs)
+    (λ c. search needs)
+    (λ c. search needs)
+    (λ c κs. search needs)
     returns
     (λ c. search needs)
     returns-2
@@ -64,4 +103,12 @@ write-sent-spec =
     (λ c. search needs)
     returns-4
     (λ c. search needs)
-    returns-5)
+    returns-5
+    (λ c. search needs)
+    returns-6
+    (λ c. search needs)
+    returns-7
+    (λ c. search needs)
+    returns-8
+    (λ c. search needs)
+    returns-9)

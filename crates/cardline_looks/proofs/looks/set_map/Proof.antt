@@ -15,7 +15,10 @@ returns-3 : tie.Need-returns-3
 returns-3 c = simp (c .enum-told3 .given .1)
 
 returns-4 : tie.Need-returns-4
-returns-4 c = c .before .before .poke .ensures ∙ simp (c .before .before .before .before .before .looking .given .1)
+returns-4 c = simp (c .enum-told4 .given .1)
+
+returns-5 : tie.Need-returns-5
+returns-5 c = c .before .before .poke .ensures ∙ simp (c .before .before .before .before .before .looking .given .1)
 
 pub set-map-spec : {M : Type 1} → statement M
 set-map-spec =
@@ -25,9 +28,11 @@ set-map-spec =
     (λ c. search needs)
     (λ c. search needs)
     (λ c. search needs)
+    (λ c. search needs)
     (λ c κs. search needs)
     returns
     returns-2
     returns-3
+    returns-4
     (λ c. search needs)
-    returns-4)
+    returns-5)

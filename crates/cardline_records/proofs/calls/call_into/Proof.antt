@@ -1,6 +1,6 @@
 -- `cardline_records::calls::call_into` meets its contract: the output is made blank, the call carried out and its line told.
 -- Assumes nothing.
-use Prim.Native.Nat.{_≤_}
+use Prim.Native.Nat.{_≤_, max}
 use native.Mathlib.Omega.{arith}
 use borrow.Author.Needs.{needs}
 use denote.Ref.{now}
@@ -25,7 +25,7 @@ returns c =
     let n = length (now (a .output)) in
     let input = now (a .input) in
     let buffers = lentOf (now (a .memory)) (now (a .map)) in
-    let h : lineRoom 20 (length q) ≤ lineRoom 20 n = omega (arith, d .kept .1 .1 .1 .1 .1 .1 .0, at-fill .fill .kept .0) in (
+    let h : lineRoom 20 (max 17 (length q)) ≤ lineRoom 20 (max 17 n) = omega (arith, d .kept .1 .1 .1 .1 .1 .1 .0, at-fill .fill .kept .0) in (
       told-record (a .card) (a .lent) (a .call) input buffers o q n (d .result) (at-fill .fill .ensures) (d .ensures .0) (d .ensures .1 .1),
       (
         d .ensures .1 .0,

@@ -1,6 +1,6 @@
 -- `cardline_records::calls::called` meets its contract: which call it is, its input and its output.
 -- Assumes nothing.
-use Prim.Native.Nat.{_-_, _≤_}
+use Prim.Native.Nat.{_-_, _≤_, max}
 use native.Mathlib.Omega.{arith}
 use borrow.Author.Needs.{needs}
 use denote.Ref.{now}
@@ -25,7 +25,7 @@ returns c =
     let d = at-call-into .call-into in
     let k = at-room-of .room-of .result in
     let n = room-length (at-space .space .result) k _ (at-space .space .ensures) (at-room-of .room-of .ensures .0) (at-room-of .room-of .ensures .1) in
-    let h : lineRoom 20 (length (take (k - 0) (at-space .space .result))) ≤ roomy = omega (arith, n, at-room-of .room-of .ensures .0, at-room-of .room-of .ensures .1) in
+    let h : lineRoom 20 (max 17 (length (take (k - 0) (at-space .space .result)))) ≤ roomy = omega (arith, n, at-room-of .room-of .ensures .0, at-room-of .room-of .ensures .1) in
     let ec = at-called-by .called-by .ensures in
     let ei = at-input-of .input-of .ensures in
     let buffers = lentOf (now (a .memory)) (now (a .map)) in (

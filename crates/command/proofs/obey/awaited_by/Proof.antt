@@ -16,14 +16,18 @@ awaited-by-spec =
     (λ c. simp (c .match .keys4))
     (λ c. simp (c .match .keys5))
     (λ c. simp (c .match .keys6))
+    (λ c. simp (c .match .keys7))
+    (λ c. simp (c .match .keys8))
     (λ c.
     let i = c .before .args .index in
     let rest = c .match .rest in
     simp (
-      ne-eqb i 17 (rest .0 .0 .0 .0 .0 .1),
-      ne-eqb i 18 (rest .0 .0 .0 .0 .1),
-      ne-eqb i 24 (rest .0 .0 .0 .1),
-      ne-eqb i 25 (rest .0 .0 .1),
-      ne-eqb i 30 (rest .0 .1),
-      ne-eqb i 42 (rest .1),
+      ne-eqb i 17 (rest .0 .0 .0 .0 .0 .0 .0 .1),
+      ne-eqb i 18 (rest .0 .0 .0 .0 .0 .0 .1),
+      ne-eqb i 24 (rest .0 .0 .0 .0 .0 .1),
+      ne-eqb i 25 (rest .0 .0 .0 .0 .1),
+      ne-eqb i 30 (rest .0 .0 .0 .1),
+      ne-eqb i 42 (rest .0 .0 .1),
+      ne-eqb i 9 (rest .0 .1),
+      ne-eqb i 10 (rest .1),
     )))

@@ -15,4 +15,5 @@ card-of-spec =
     (λ c. search needs)
     (λ c κs. search needs)
     (λ c κs. search needs)
-    (λ c. simp (c .link-of .ensures, c .before .locked-of .ensures, c .before .before .registers-of .ensures)))
+    (λ c κs. search needs)
+    (λ c. simp (c .mode-of .ensures, c .before .link-of .ensures, c .before .before .locked-of .ensures, c .before .before .before .registers-of .ensures)))

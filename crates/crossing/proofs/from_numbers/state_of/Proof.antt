@@ -23,21 +23,25 @@ state-of-spec =
     (λ c. simp (c .match .keys11))
     (λ c. simp (c .match .keys12))
     (λ c. simp (c .match .keys13))
+    (λ c. simp (c .match .keys14))
+    (λ c. simp (c .match .keys15))
     (λ c.
     let i = c .before .args .number in
     let rest = c .match .rest in
     simp (
-      ne-eqb i 0 (rest .0 .0 .0 .0 .0 .0 .0 .0 .0 .0 .0 .0 .1),
-      ne-eqb i 1 (rest .0 .0 .0 .0 .0 .0 .0 .0 .0 .0 .0 .1),
-      ne-eqb i 2 (rest .0 .0 .0 .0 .0 .0 .0 .0 .0 .0 .1),
-      ne-eqb i 3 (rest .0 .0 .0 .0 .0 .0 .0 .0 .0 .1),
-      ne-eqb i 4 (rest .0 .0 .0 .0 .0 .0 .0 .0 .1),
-      ne-eqb i 5 (rest .0 .0 .0 .0 .0 .0 .0 .1),
-      ne-eqb i 6 (rest .0 .0 .0 .0 .0 .0 .1),
-      ne-eqb i 7 (rest .0 .0 .0 .0 .0 .1),
-      ne-eqb i 8 (rest .0 .0 .0 .0 .1),
-      ne-eqb i 9 (rest .0 .0 .0 .1),
-      ne-eqb i 10 (rest .0 .0 .1),
-      ne-eqb i 11 (rest .0 .1),
-      ne-eqb i 12 (rest .1),
+      ne-eqb i 0 (rest .0 .0 .0 .0 .0 .0 .0 .0 .0 .0 .0 .0 .0 .0 .1),
+      ne-eqb i 1 (rest .0 .0 .0 .0 .0 .0 .0 .0 .0 .0 .0 .0 .0 .1),
+      ne-eqb i 2 (rest .0 .0 .0 .0 .0 .0 .0 .0 .0 .0 .0 .0 .1),
+      ne-eqb i 3 (rest .0 .0 .0 .0 .0 .0 .0 .0 .0 .0 .0 .1),
+      ne-eqb i 4 (rest .0 .0 .0 .0 .0 .0 .0 .0 .0 .0 .1),
+      ne-eqb i 5 (rest .0 .0 .0 .0 .0 .0 .0 .0 .0 .1),
+      ne-eqb i 6 (rest .0 .0 .0 .0 .0 .0 .0 .0 .1),
+      ne-eqb i 7 (rest .0 .0 .0 .0 .0 .0 .0 .1),
+      ne-eqb i 8 (rest .0 .0 .0 .0 .0 .0 .1),
+      ne-eqb i 9 (rest .0 .0 .0 .0 .0 .1),
+      ne-eqb i 10 (rest .0 .0 .0 .0 .1),
+      ne-eqb i 11 (rest .0 .0 .0 .1),
+      ne-eqb i 12 (rest .0 .0 .1),
+      ne-eqb i 14 (rest .0 .1),
+      ne-eqb i 15 (rest .1),
     )))

@@ -1,4 +1,4 @@
--- `crossing::to_numbers::put_lock` meets its contract: two stores behind the link's numbers.
+-- `crossing::to_numbers::put_lock` meets its contract: two stores behind the mode's number.
 -- Assumes nothing.
 use mathlib.Core.Path.{_≡_, refl, _∙_}
 use mathlib.Core.List.{List, [], _∷_, _++_}
@@ -14,10 +14,10 @@ use Rattle.crossing.specs.Record.{lockNumbers}
 use Rattle.crossing.proofs.to_numbers.put_lock.Statement.{statement}
 use Rattle.crossing.proofs.to_numbers.put_lock.Tie as tie
 
-stored : (lock : Lock) (numbers : List ℕ) (locked : ℕ) → 10 ≤ length numbers → locked ≡ flag (lock .locked)
-    → sets numbers 8 (locked ∷ lock .length ∷ []) ≡ take 8 numbers ++ lockNumbers lock ++ drop 10 numbers
+stored : (lock : Lock) (numbers : List ℕ) (locked : ℕ) → 11 ≤ length numbers → locked ≡ flag (lock .locked)
+    → sets numbers 9 (locked ∷ lock .length ∷ []) ≡ take 9 numbers ++ lockNumbers lock ++ drop 11 numbers
 unfolding lockNumbers
-stored lock numbers locked long e = sets-eq (locked ∷ lock .length ∷ []) numbers 8 long ∙ simp e
+stored lock numbers locked long e = sets-eq (locked ∷ lock .length ∷ []) numbers 9 long ∙ simp e
 
 returns : tie.Need-returns
 returns c =

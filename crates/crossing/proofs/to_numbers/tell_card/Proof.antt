@@ -9,7 +9,7 @@ use lib.ListN.{length}
 use mir.Syntax.{w8, w16}
 use mir.Val.{Fits}
 use Rattle.crossing.specs.Record.{cardOf, Within}
-use Rattle.crossing.proofs.Crossing.{lock-behind, registers-behind, crossing}
+use Rattle.crossing.proofs.Crossing.{mode-behind, lock-behind, registers-behind, crossing}
 use Rattle.crossing.proofs.to_numbers.tell_card.Statement.{statement}
 use Rattle.crossing.proofs.to_numbers.tell_card.Tie as tie
 
@@ -29,16 +29,18 @@ within s =
 returns : tie.Need-returns
 returns c =
     let at-lock = c .before .before in
-    let at-link = at-lock .before .before in
-    let s = at-link .before .before .before .before .before in
+    let at-mode = at-lock .before .before in
+    let at-link = at-mode .before .before in
+    let s = at-link .before .before .before .before .before .before in
     let card = s .args .card in
     let numbers = now (s .args .numbers) in
-    let long : length numbers ≡ 12 = search needs in
-    let behind = lock-behind (card .link) (card .lock) numbers _ _ (at-link .put-link .ensures) (at-lock .put-lock .ensures) in
-    let told = registers-behind card numbers _ _ long behind (c .put-registers .ensures) in (
+    let long : length numbers ≡ 13 = search needs in
+    let both = mode-behind (card .link) (card .mode) numbers _ _ (at-link .put-link .ensures) (at-mode .put-mode .ensures) in
+    let three = lock-behind (card .link) (card .mode) (card .lock) numbers _ _ both (at-lock .put-lock .ensures) in
+    let told = registers-behind card numbers _ _ long three (c .put-registers .ensures) in (
       told,
       ap (λ (l : List ℕ). cardOf l (card .registers .cid) (card .registers .csd) (card .lock .password)) told ∙ crossing card (within s),
     )
 
 pub tell-card-spec : {M : Type 1} → statement M
-tell-card-spec = tie.close (tie.spec (λ c κs. search needs) (λ c κs. search needs) (λ c κs. search needs) returns)
+tell-card-spec = tie.close (tie.spec (λ c κs. search needs) (λ c κs. search needs) (λ c κs. search needs) (λ c κs. search needs) returns)

@@ -7,8 +7,10 @@ use lib.ListN.{length}
 use Rattle.card_blocks.specs.BlockOut.{stateSends, sentOut}
 use Rattle.card_blocks.specs.declared.OutJudged.{OutJudged}
 use Rattle.card_record.specs.declared.Card.{Card}
+use Rattle.crossing.specs.Record.{cardOf}
 use Rattle.store.specs.Lent.{lentOf}
-use Rattle.firmware.proofs.Left.{lent-by, out-judged, out-unlent, out-left, out-told}
+use Rattle.firmware.proofs.Left.{lent-by}
+use Rattle.firmware.proofs.LeftBlocks.{out-judged, out-unlent, out-left, out-told}
 use Rattle.firmware.proofs.blocks.mmc_parts_block_out.Statement.{statement}
 use Rattle.firmware.proofs.blocks.mmc_parts_block_out.Tie as tie
 
@@ -50,15 +52,15 @@ returns-2 c =
     ∙ ap (λ (j : OutJudged). j .stepped) judged
     in
     let sent =
-    at-block .given-out .ensures .1 ∙ ap (λ (card : Card). sentOut lent (stateSends card (card .link .state) (length out) .sending) out) taken
-    ∙ ap (λ (j : OutJudged). sentOut lent (j .sending) out) judged
+    at-block .given-out .ensures .1 ∙ ap (λ (card : Card). sentOut card lent (stateSends card (card .link .state) (length out) .sending) out) taken
+    ∙ ap (λ (j : OutJudged). sentOut (cardOf numbers cid csd password) lent (j .sending) out) judged
     in
     out-left numbers cid csd password lent out _ _ _ _ stepped (at-number .outcome-number .ensures)
     (sym (at-leaves .leaves-record .ensures) ∙ c .if1 .taken) sent (at-number .before .wrote .ensures)
 
 returns-3 : tie.Need-returns-3
 returns-3 c =
-    let at-test = c .before .before .before in
+    let at-test = c .before .before .before .before in
     let at-leaves = at-test .before in
     let at-number = at-leaves .before in
     let at-block = at-number .before .before .before .before .before .before in
@@ -79,8 +81,8 @@ returns-3 c =
     ∙ ap (λ (j : OutJudged). j .stepped) judged
     in
     let sent =
-    at-block .given-out .ensures .1 ∙ ap (λ (card : Card). sentOut lent (stateSends card (card .link .state) (length out) .sending) out) taken
-    ∙ ap (λ (j : OutJudged). sentOut lent (j .sending) out) judged
+    at-block .given-out .ensures .1 ∙ ap (λ (card : Card). sentOut card lent (stateSends card (card .link .state) (length out) .sending) out) taken
+    ∙ ap (λ (j : OutJudged). sentOut (cardOf numbers cid csd password) lent (j .sending) out) judged
     in
     let told = c .tell-link .ensures in
     out-told numbers cid csd password lent out _ _ _ _ _ stepped (at-number .outcome-number .ensures)
