@@ -8,8 +8,9 @@ mod hearing;
 
 use base::Refusal;
 use card_record::Card;
+use contest::contends;
+use contest::holds;
 use contest::lowest;
-use contest::wins;
 use hearing::asked_of;
 use hearing::decide;
 use hearing::line_by;
@@ -195,12 +196,8 @@ pub fn frame(bus: Bus, frame: &[u8]) -> Framed
     let end = places(bus.count);
     let asked = asked_of(end, frame);
     match asked {
-        Asked::Refused(refusal) => {
-            return refuse(bus, refusal);
-        }
-        Asked::Damaged => {
-            return refuse(damage(bus), Refusal::FrameCrc);
-        }
+        Asked::Refused(refusal) => return refuse(bus, refusal),
+        Asked::Damaged => return refuse(damage(bus), Refusal::FrameCrc),
         Asked::Command { index, argument } => {
             let low = lowest(bus, index);
             let mut next = bus;
@@ -208,7 +205,10 @@ pub fn frame(bus: Bus, frame: &[u8]) -> Framed
             let mut i: usize = 0;
             while i < end {
                 let seen = next.cards[i];
-                let won = wins(low, seen);
+                let mut won = false;
+                if contends(low.any, seen) {
+                    won = holds(low, seen);
+                }
                 let decided = decide(seen, won, index, argument);
                 if !command::leaves_alone(decided) {
                     let card = next.cards[i];

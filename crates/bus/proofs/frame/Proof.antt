@@ -2,7 +2,7 @@
 -- holds what the first ones sent.
 -- Assumes nothing.
 use mathlib.Core.List.{map}
-use mathlib.Core.Logic.{⊎-elim}
+use mathlib.Core.Logic.{inl, inr, ⊎-elim}
 use mathlib.Core.Path.{_≡_, refl, sym, ap, _∙_, subst}
 use Prim.Native.Nat.{ℕ, _≤_, _-_}
 use native.Mathlib.Omega.{arith}
@@ -14,6 +14,7 @@ use Rattle.base.specs.Refusals.{by}
 use Rattle.bus.proofs.Asking.{asked-answered, asked-small}
 use Rattle.bus.proofs.Lists.{changed, change-all}
 use Rattle.bus.proofs.Telling.{after, frame, heard-start, tell-turn, tell-alone, line-is-heard, told-is-command}
+use Rattle.bus.proofs.Winners.{holds-told}
 use Rattle.bus.specs.Bus.{countOf, refusedOn}
 use Rattle.bus.specs.Hearing.{quiet, heardFrom}
 use Rattle.bus.specs.declared.Bus.{Bus}
@@ -66,7 +67,7 @@ loop-holds c =
 turn-requires : tie.Need-turn-requires Inv-loop μ-loop
 turn-requires c κs =
     let at-decide = c .before .before .before in
-    let at-loop = at-decide .before .before .before .before in
+    let at-loop = at-decide .before .before .before .before .before in
     let at-command = at-loop .before .before .before .before in
     let at-asked = at-command .before .before in (
       at-loop .loop .inv .5,
@@ -78,10 +79,15 @@ loop-again : tie.Need-loop-again Inv-loop μ-loop
 loop-again c =
     let alone = c .before .leaves-alone in
     let at-decide = c .before .before in
-    let at-wins = at-decide .before in
-    let at-loop = at-wins .before .before .before in
+    let at-won = at-decide .before in
+    let at-contends = at-won .before in
+    let at-loop = at-contends .before .before .before in
     let l = at-loop .loop in
-    let low = at-loop .before .before .lowest .ensures in
+    let found = at-loop .before .before .lowest in
+    let low = found .ensures in
+    let won =
+    holds-told (found .result) _ _ (at-won .if1 .won) (at-contends .contends .ensures)
+    (⊎-elim (λ w. inl (w .0 .taken, w .2 ∙ w .1 .ensures)) (λ w. inr (w .0 .left, w .1)) (at-won .if1 .came)) in
     let s = at-loop .before .before .before .before .before .before .before .before .before in
     let bus = s .args .bus in
     let long : length (bus .cards) ≡ 30 = simp length-map at (s .good .0 .1 .1 .0 .1 .0 .1) in
@@ -89,7 +95,7 @@ loop-again c =
     (λ w.
     let more =
     tell-turn bus _ _ (l .i) _ _ (l .next .cards) (l .heard) _ _ long (omega (arith, l .inv .1)) (low .0) (low .1) (l .inv .3) (l .inv .4)
-    (at-wins .wins .ensures) (w .2 .ensures .0) in (
+    won (w .2 .ensures .0) in (
       search needs,
       l .inv .1,
       ap (λ (b : Bus). b .count) (w .5) ∙ l .inv .2,
@@ -100,7 +106,7 @@ loop-again c =
     (λ w.
     let more =
     tell-alone bus _ _ (l .i) _ _ (l .next .cards) (l .heard) _ _ long (omega (arith, l .inv .1)) (low .0) (low .1) (l .inv .3) (l .inv .4)
-    (at-wins .wins .ensures) (at-decide .decide .ensures) (sym (alone .ensures) ∙ not-false (alone .result) (w .0 .left)) in (
+    won (at-decide .decide .ensures) (sym (alone .ensures) ∙ not-false (alone .result) (w .0 .left)) in (
       search needs,
       l .inv .1,
       ap (λ (b : Bus). b .count) (w .1) ∙ l .inv .2,
@@ -108,7 +114,7 @@ loop-again c =
       w .2 ∙ more .1,
       subst (λ (h : Heard). h .length ≤ 17) (sym (w .2)) (l .inv .5),
     ))
-    (c .if1 .came)
+    (c .if2 .came)
 
 returns-3 : tie.Need-returns-3 Inv-loop μ-loop
 returns-3 c =
@@ -151,6 +157,7 @@ frame-spec =
     loop-holds
     (λ c. search needs)
     (λ c. search needs)
+    (λ c κs. search needs)
     (λ c κs. search needs)
     (λ c κs. search needs)
     (λ c κs. search needs)
