@@ -5,8 +5,9 @@
 // Offers: `Low`, `nobody`, `is_lower`, `is_low`; `and`.
 use base::least;
 ghost use mathlib.Core.Path.{_≡_};
+ghost use lib.Dec.{eqb, ltb};
 ghost use Rattle.shared_line.specs.Bytes.{anded};
-ghost use Rattle.shared_line.specs.Lowest.{orderOf, noLow, isLower, isLow};
+ghost use Rattle.shared_line.specs.Lowest.{cidNumber, noLow, isLower, isLow};
 
 // The smallest CID among those that were sent, if any was.
 pub struct Low {
@@ -14,28 +15,35 @@ pub struct Low {
     pub cid: [u8; 16],
 }
 
-// How a CID stands to another, as numbers.
-pub enum Order {
-    Smaller,
-    Same,
-    Larger,
-}
-
-// How a CID stands to another: the first byte in which they differ decides.
-fn compare(a: [u8; 16], b: [u8; 16]) -> Order
-    ensures { λ r. ⌜ r ≡ orderOf a b ⌝ }
+// Whether a CID is smaller than another, as numbers: the first byte in which they differ decides.
+fn below(a: [u8; 16], b: [u8; 16]) -> bool
+    ensures { λ r. ⌜ r ≡ ltb (cidNumber a) (cidNumber b) ⌝ }
 {
     let mut i: usize = 0;
     while i < 16 {
         if a[i] < b[i] {
-            return Order::Smaller;
+            return true;
         }
         if b[i] < a[i] {
-            return Order::Larger;
+            return false;
         }
         i += 1;
     }
-    Order::Same
+    false
+}
+
+// Whether two CIDs are the same number.
+fn same(a: [u8; 16], b: [u8; 16]) -> bool
+    ensures { λ r. ⌜ r ≡ eqb (cidNumber a) (cidNumber b) ⌝ }
+{
+    let mut i: usize = 0;
+    while i < 16 {
+        if a[i] != b[i] {
+            return false;
+        }
+        i += 1;
+    }
+    true
 }
 
 // No CID yet.
@@ -56,12 +64,7 @@ pub fn is_lower(low: Low, cid: [u8; 16]) -> bool
         return true;
     }
     let found = low.cid;
-    let order = compare(cid, found);
-    match order {
-        Order::Smaller => true,
-        Order::Same => false,
-        Order::Larger => false,
-    }
+    below(cid, found)
 }
 
 // Whether a CID is the one that was found.
@@ -71,13 +74,8 @@ pub fn is_low(low: Low, cid: [u8; 16]) -> bool
     if !low.any {
         return false;
     }
-    let least = low.cid;
-    let order = compare(cid, least);
-    match order {
-        Order::Smaller => false,
-        Order::Same => true,
-        Order::Larger => false,
-    }
+    let found = low.cid;
+    same(cid, found)
 }
 
 // What the line held, ANDed with a frame.

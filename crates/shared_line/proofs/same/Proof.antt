@@ -1,0 +1,60 @@
+-- `shared_line::same` meets its contract. The loop's invariant: the bytes so far are the same.
+-- Assumes nothing.
+use mathlib.Core.Path.{_≡_, sym}
+use Prim.Native.Nat.{ℕ, _≤_, _<_, _-_}
+use native.Mathlib.Omega.{arith}
+use borrow.Author.Count.{below-more}
+use borrow.Author.Needs.{needs}
+use borrow.Author.Tests.{eq-eqb, ne-eqb}
+use lib.ListN.{length, getD}
+use mir.Syntax.{w8}
+use mir.Val.{Fits}
+use Rattle.crc.proofs.Bits.{below-all}
+use Rattle.shared_line.proofs.Numbers.{number-differs, number-same}
+use Rattle.shared_line.specs.Lowest.{cidNumber}
+use Rattle.shared_line.proofs.same.Statement.{statement}
+use Rattle.shared_line.proofs.same.Tie as tie
+
+abbrev Inv-loop : tie.InvT-loop
+Inv-loop a b i₀ i = (i ≤ 16) × ((k : ℕ) → k < i → getD a k 0 ≡ getD b k 0)
+
+abbrev μ-loop : tie.MeasureT-loop
+μ-loop a b i₀ i = 16 - i
+
+returns : tie.Need-returns Inv-loop μ-loop
+returns c =
+    let l = c .before .before .loop in
+    let a = c .before .before .before .args .t1 in
+    let b = c .before .before .before .args .t2 in
+    let n : length a ≡ length b = search needs in
+    let fa : (i : ℕ) → Fits w8 (getD a i 0) = λ i. search needs in
+    let fb : (i : ℕ) → Fits w8 (getD b i 0) = λ i. search needs in
+    sym
+    (ne-eqb (cidNumber a) (cidNumber b)
+    (number-differs (l .i) a b n (below-all 256 a (λ i. fa i .fits)) (below-all 256 b (λ i. fb i .fits)) (search needs) (l .inv .1) (c .if1 .taken)))
+
+loop-again : tie.Need-loop-again Inv-loop μ-loop
+loop-again c = (search needs, below-more _ _ (c .before .before .loop .inv .1) (c .if1 .left))
+
+returns-2 : tie.Need-returns-2 Inv-loop μ-loop
+returns-2 c =
+    let a = c .before .before .args .t1 in
+    let b = c .before .before .args .t2 in
+    let n : length a ≡ length b = search needs in
+    let k : length a ≡ 16 = search needs in
+    sym (eq-eqb (cidNumber a) (cidNumber b) (number-same a b n (λ j h. c .before .loop .inv .1 j (omega arith))))
+
+pub same-spec : {M : Type 1} → statement M
+same-spec =
+    tie.close
+    (tie.spec
+    Inv-loop
+    μ-loop
+    (λ c. search needs)
+    (λ c. search needs)
+    (λ c. search needs)
+    returns
+    (λ c. search needs)
+    (λ c. search needs)
+    loop-again
+    returns-2)
