@@ -13,14 +13,13 @@ use Prim.Native.Nat.{ℕ, _+_, _*_, _≤_, _<_}
 use native.Mathlib.Nat.{le-refl, le-trans}
 use native.Mathlib.Numerals.{add-one}
 use native.Mathlib.Omega.{arith}
-use borrow.Author.Tests.{eqb-true, eqb-false, ltb-true, ltb-false}
-use lib.Dec.{eqb, ltb}
 use lib.ListN.{length, take, getD}
 use lib.Seq.{take-suc}
 use Rattle.base.proofs.Cases.{cases, last}
 use Rattle.crc.proofs.Bits.{length-bits, bits-below}
 use Rattle.crc.specs.Bits.{bits, spelt, Below}
 use Rattle.shared_line.proofs.Arbitration.{Bitwise, bitwise, winners, line-is-smallest}
+use Rattle.shared_line.proofs.Orders.{by-order}
 use Rattle.shared_line.specs.Line.{Sender, contested}
 use Rattle.shared_line.specs.Lowest.{cidNumber, noLow, lowBy, isLower, lowerOf, isLow}
 use Rattle.shared_line.specs.declared.Low.{Low}
@@ -52,9 +51,10 @@ better-old : (low : Low) (card : Card) → low .any ≡ true
 unfolding betterOf lowerOf isLower
 better-old low card any =
     cases (isReady card)
-    (λ r. cases (ltb (cidNumber (cidOf card)) (cidNumber (low .cid)))
-    (λ t. let h = ltb-true (cidNumber (cidOf card)) (cidNumber (low .cid)) t in rw (r, any, t) (refl, omega (arith, h)))
-    (λ t. rw (r, any, t) (refl, le-refl (cidNumber (low .cid)))))
+    (λ r. by-order (cidOf card) (low .cid)
+    (λ h o. rw (r, any, o) (refl, omega arith))
+    (λ h o. rw (r, any, o) (refl, le-refl (cidNumber (low .cid))))
+    (λ h o. rw (r, any, o) (refl, le-refl (cidNumber (low .cid)))))
     (λ r. rw r (any, le-refl (cidNumber (low .cid))))
 
 better-new : (low : Low) (card : Card) → isReady card ≡ true
@@ -62,9 +62,10 @@ better-new : (low : Low) (card : Card) → isReady card ≡ true
 unfolding betterOf lowerOf isLower
 better-new low card r =
     cases (low .any)
-    (λ any. cases (ltb (cidNumber (cidOf card)) (cidNumber (low .cid)))
-    (λ t. rw (r, any, t) (refl, le-refl (cidNumber (cidOf card))))
-    (λ t. rw (r, any, t) (refl, ltb-false (cidNumber (cidOf card)) (cidNumber (low .cid)) t)))
+    (λ any. by-order (cidOf card) (low .cid)
+    (λ h o. rw (r, any, o) (refl, le-refl (cidNumber (cidOf card))))
+    (λ h o. rw (r, any, o) (refl, omega arith))
+    (λ h o. rw (r, any, o) (refl, omega arith)))
     (λ any. rw (r, any) (refl, le-refl (cidNumber (cidOf card))))
 
 better-from : (low : Low) (card : Card) → (betterOf low card ≡ low) ⊎ ((isReady card ≡ true) × (betterOf low card .cid ≡ cidOf card))
@@ -72,7 +73,7 @@ unfolding betterOf lowerOf isLower
 better-from low card =
     cases (isReady card)
     (λ r. cases (low .any)
-    (λ any. cases (ltb (cidNumber (cidOf card)) (cidNumber (low .cid))) (λ t. inr (r, rw (r, any, t))) (λ t. inl (rw (r, any, t))))
+    (λ any. by-order (cidOf card) (low .cid) (λ h o. inr (r, rw (r, any, o))) (λ h o. inl (rw (r, any, o))) (λ h o. inl (rw (r, any, o))))
     (λ any. inr (r, rw (r, any))))
     (λ r. inl (rw r))
 
@@ -177,13 +178,10 @@ module _ (cards : List Card) (held : (card : Card) → List·Memᴰ card cards �
       (λ r.
       let shown = shown-low card m r in
       let any = low-least noLow cards card m r .0 in
-      cases (eqb (cidNumber (cidOf card)) (cidNumber (low .cid)))
-      (λ t.
-      let left : holdsLow low card ≡ true = rw (any, r, t) in
-      left ∙ sym (w .1 (r, eqb-true (cidNumber (cidOf card)) (cidNumber (low .cid)) t ∙ sym shown)))
-      (λ t.
-      let left : holdsLow low card ≡ false = rw (any, r, t) in
-      left ∙ sym (lost (λ won. eqb-false (cidNumber (cidOf card)) (cidNumber (low .cid)) t (w .0 won .1 ∙ shown)))))
+      by-order (cidOf card) (low .cid)
+      (λ h o. let left : holdsLow low card ≡ false = rw (any, r, o) in left ∙ sym (lost (λ t. let e = w .0 t .1 in omega arith)))
+      (λ h o. let left : holdsLow low card ≡ true = rw (any, r, o) in left ∙ sym (w .1 (r, h ∙ sym shown)))
+      (λ h o. let left : holdsLow low card ≡ false = rw (any, r, o) in left ∙ sym (lost (λ t. let e = w .0 t .1 in omega arith))))
       (λ r.
       let left : holdsLow low card ≡ false = rw r in
       left ∙ sym (lost (λ t. false≢true (sym r ∙ w .0 t .0))))

@@ -1,6 +1,5 @@
 -- Registers as numbers, byte by byte.
 --   number-less   the first byte in which two registers differ decides
---   number-differs   so that registers which differ in a byte have other numbers
 --   number-same   registers with the same bytes have the same number
 -- Assumes nothing.
 use mathlib.Core.Path.{_≡_, sym, ap, _∙_, subst}
@@ -8,11 +7,8 @@ use mathlib.Core.List.{List, [], _∷_}
 use Prim.Native.Nat.{ℕ, zero, suc, _+_, _*_, _^_, _<_}
 use native.Mathlib.Nat.{suc-mul, mul-le-mul-right}
 use native.Mathlib.Omega.{arith}
-use borrow.Author.Tests.{ltb-true, ltb-false}
-use lib.Dec.{ltb}
 use lib.ListN.{length, getD}
 use lib.Seq.{ext-getD}
-use Rattle.base.proofs.Cases.{cases}
 use Rattle.crc.proofs.Bits.{onward-is, onward-bits, spelt-lt, bits-below, length-bits}
 use Rattle.crc.specs.Bits.{bits, onward, spelt, Below}
 use Rattle.shared_line.specs.Lowest.{cidNumber}
@@ -42,19 +38,6 @@ pub number-less : (k : ℕ) (a b : List ℕ) → length a ≡ length b → Below
     → ((j : ℕ) → j < k → getD a j 0 ≡ getD b j 0) → getD a k 0 < getD b k 0 → cidNumber a < cidNumber b
 unfolding cidNumber
 number-less k a b = onward-first k 0 a b
-
-pub number-differs : (k : ℕ) (a b : List ℕ) → length a ≡ length b → Below 256 a → Below 256 b → k < length a
-    → ((j : ℕ) → j < k → getD a j 0 ≡ getD b j 0) → (getD a k 0 ≡ getD b k 0 → ⊥) → cidNumber a ≡ cidNumber b → ⊥
-number-differs k a b e wa wb h same differs equal =
-    cases (ltb (getD a k 0) (getD b k 0))
-    (λ t. let less = number-less k a b e wa wb h same (ltb-true (getD a k 0) (getD b k 0) t) in omega (arith, less, equal))
-    (λ t.
-    let up = ltb-false (getD a k 0) (getD b k 0) t in
-    cases (ltb (getD b k 0) (getD a k 0))
-    (λ u.
-    let less = number-less k b a (sym e) wb wa (omega arith) (λ j hj. sym (same j hj)) (ltb-true (getD b k 0) (getD a k 0) u) in
-    omega (arith, less, equal))
-    (λ u. let down = ltb-false (getD b k 0) (getD a k 0) u in differs (omega (arith, up, down))))
 
 pub number-same : (a b : List ℕ) → length a ≡ length b → ((j : ℕ) → j < length a → getD a j 0 ≡ getD b j 0) → cidNumber a ≡ cidNumber b
 number-same a b e same = ap cidNumber (ext-getD 0 a b e same)

@@ -5,9 +5,8 @@
 // Offers: `Low`, `nobody`, `is_lower`, `is_low`; `and`.
 use base::least;
 ghost use mathlib.Core.Path.{_≡_};
-ghost use lib.Dec.{eqb, ltb};
 ghost use Rattle.shared_line.specs.Bytes.{anded};
-ghost use Rattle.shared_line.specs.Lowest.{cidNumber, noLow, isLower, isLow};
+ghost use Rattle.shared_line.specs.Lowest.{orderOf, noLow, isLower, isLow};
 
 // The smallest CID among those that were sent, if any was.
 pub struct Low {
@@ -15,35 +14,28 @@ pub struct Low {
     pub cid: [u8; 16],
 }
 
-// Whether a CID is smaller than another, as numbers: the first byte in which they differ decides.
-fn below(a: [u8; 16], b: [u8; 16]) -> bool
-    ensures { λ r. ⌜ r ≡ ltb (cidNumber a) (cidNumber b) ⌝ }
+// How a CID stands to another, as numbers.
+pub enum Order {
+    Smaller,
+    Same,
+    Larger,
+}
+
+// How a CID stands to another: the first byte in which they differ decides.
+fn compare(a: [u8; 16], b: [u8; 16]) -> Order
+    ensures { λ r. ⌜ r ≡ orderOf a b ⌝ }
 {
     let mut i: usize = 0;
     while i < 16 {
         if a[i] < b[i] {
-            return true;
+            return Order::Smaller;
         }
         if b[i] < a[i] {
-            return false;
+            return Order::Larger;
         }
         i += 1;
     }
-    false
-}
-
-// Whether two CIDs are the same number.
-fn same(a: [u8; 16], b: [u8; 16]) -> bool
-    ensures { λ r. ⌜ r ≡ eqb (cidNumber a) (cidNumber b) ⌝ }
-{
-    let mut i: usize = 0;
-    while i < 16 {
-        if a[i] != b[i] {
-            return false;
-        }
-        i += 1;
-    }
-    true
+    Order::Same
 }
 
 // No CID yet.
@@ -64,7 +56,12 @@ pub fn is_lower(low: Low, cid: [u8; 16]) -> bool
         return true;
     }
     let found = low.cid;
-    below(cid, found)
+    let order = compare(cid, found);
+    match order {
+        Order::Smaller => true,
+        Order::Same => false,
+        Order::Larger => false,
+    }
 }
 
 // Whether a CID is the one that was found.
@@ -74,8 +71,13 @@ pub fn is_low(low: Low, cid: [u8; 16]) -> bool
     if !low.any {
         return false;
     }
-    let found = low.cid;
-    same(cid, found)
+    let least = low.cid;
+    let order = compare(cid, least);
+    match order {
+        Order::Smaller => false,
+        Order::Same => true,
+        Order::Larger => false,
+    }
 }
 
 // What the line held, ANDed with a frame.
