@@ -3,7 +3,7 @@
 --   low-turn     one turn of the search
 --   low-least    what is found is no larger than a Ready card's CID
 --   low-from     what is found is a Ready card's CID, or what was there before
---   better-.., holds-told   the step of the search and the question, as code tells their cases apart
+--   better-.., holds-..   the step of the search and the question, as code tells their cases apart
 -- Assumes nothing.
 use mathlib.Core.Path.{_≡_, refl, sym, ap, _∙_, subst}
 use mathlib.Core.Bool.{Bool, true, false, _&&_, false≢true}
@@ -93,16 +93,18 @@ module _ (low : Low) (card : Card) where
       unfolding betterOf lowerOf
       better-left l = let e = sym told ∙ sent in let f = sym asked ∙ l in rw (e, f)
 
-  -- a card that does not contend holds nothing that was found
-  pub holds-told : (arises won : Bool) → arises ≡ (low .any && isReady card)
-      → ((arises ≡ true) × (won ≡ isLow low (cidOf card))) ⊎ ((arises ≡ false) × (won ≡ false)) → won ≡ holdsLow low card
-  unfolding holdsLow isLow
-  holds-told arises won told (inl w) = let r = last (low .any) (isReady card) (sym told ∙ w .0) in rw r (w .1)
-  holds-told arises won told (inr w) =
-      w .1
-      ∙ cases (low .any)
-      (λ any. let r : isReady card ≡ false = rw any at (sym told ∙ w .0) in rw r)
-      (λ any. cases (isReady card) (λ r. rw (r, any)) (λ r. rw r))
+  -- a card that contends is asked; one that does not holds nothing that was found
+  module _ (arises : Bool) (told : arises ≡ (low .any && isReady card)) where
+    pub holds-asked : {won : Bool} → arises ≡ true → won ≡ isLow low (cidOf card) → won ≡ holdsLow low card
+    unfolding holdsLow isLow
+    holds-asked a asked = let r = last (low .any) (isReady card) (sym told ∙ a) in rw r asked
+
+    pub holds-silent : arises ≡ false → false ≡ holdsLow low card
+    unfolding holdsLow isLow
+    holds-silent a =
+        cases (low .any)
+        (λ any. let r : isReady card ≡ false = rw any at (sym told ∙ a) in rw r)
+        (λ any. cases (isReady card) (λ r. rw (r, any)) (λ r. rw r))
 
 low-old : (low : Low) (cards : List Card) → low .any ≡ true
     → (lowFrom low cards .any ≡ true) × (cidNumber (lowFrom low cards .cid) ≤ cidNumber (low .cid))
