@@ -3,7 +3,8 @@
 // the CSD and the password, stand for a record (from_numbers.rt), and any do; a record has its numbers
 // (to_numbers.rt). Eight of them are the link's, one the mode's, two the lock's and two the registers':
 // a part that a call does not change need not be told. Commands change the link and the mode, so
-// these two are told together; a damaged frame changes the error bits alone. Nothing is lost between the two (proofs/Crossing.antt).
+// these two are told together; a damaged frame changes the error bits alone. Nothing is lost between
+// numbers and record (proofs/Crossing.antt).
 //
 // Offers: `card_of`, `link_of`, `mode_of`, `registers_of`, `groups_of`, `locked_of`; `tell_card`,
 // `tell_errors`, `tell_link`, `tell_link_and_lock`.
