@@ -5,7 +5,7 @@
      - no pointer is null, and each points to as many bytes as the length behind it says, or as the comment says where there is none;
      - what a call writes to overlaps nothing else that it is given;
      - while a call runs, nobody else writes what it reads, or reads or writes what it writes.
-   No call keeps a pointer, allocates, waits, or calls anything of the C library but memcpy and memset. A call writes nothing but what its
+   No call keeps a pointer, allocates, waits, or calls anything of the C library but memcpy, memmove and memset. A call writes nothing but what its
    comment says.
 
    A call answers 0 where it was carried out, else the number that document 01 gives its refusal; a comment lists the numbers in the order
