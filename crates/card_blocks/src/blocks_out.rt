@@ -115,6 +115,8 @@ fn bytes_judged(card: Card, n: u16, sending: Sending, room: usize) -> OutJudged
     out_good(card, State::Tran, n, sending)
 }
 
+// What is to go out: 6, and of memory 18 and 21. A part of memory is judged by one call, so that the
+// compiler copies it in here.
 fn outgoing_judged(card: Card, outgoing: Outgoing, room: usize) -> OutJudged
     ensures { λ r. ⌜ r ≡ outgoingJudged card outgoing room ⌝ }
 {
