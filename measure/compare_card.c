@@ -34,7 +34,7 @@ static void begin(u32 state)
     static const u32 LENGTHS[] = {512, 512, 512, 2048, 1, 2, 3, 40, 1024, 2047, 0, 2049, 65535};
     static const u32 ERRORS[] = {0, 0, 0x00C00000, 0x00008000, 0xFFFFFFFF, 0x82400000};
     static const u8 PROTECTION[] = {0, 0, 0, 0x10, 0x20, 0xCF, 0xFF};
-    static const u32 MODES[] = {0, 0, 0, 2, 1, 1, 3, 3};
+    static const u32 MODES[] = {0, 0, 0, MMC_CHECKS, MMC_SPI, MMC_SPI, MMC_SPI | MMC_CHECKS, MMC_SPI | MMC_CHECKS};
     static const u32 HELD[] = {0, 0, 1, 4, 15, 16, 17, 200};
     struct mmc_numbers card = {
         .state = state,

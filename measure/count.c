@@ -1,77 +1,67 @@
-/* Instructions counted exactly: a child is stepped one instruction at a time, and those between the call's first instruction and
-   its return are counted, the callees' among them. Nothing has to be taken off for the way to the call.
+/* Instructions counted exactly: the processor is told to trap behind each instruction, and those between the call's first instruction
+   and its return are counted, the callees' among them. Nothing has to be taken off for the way to the call. An emulator traps in the
+   same way, so that the counts are to be had on any machine.
 
-   An instruction with a `rep` prefix stops after each of its repetitions, before the last with the instruction pointer where it
-   was. It is one instruction, as a processor's own counter has it: a step that leaves the pointer where it was is not counted.
+   An instruction with a `rep` prefix traps after each of its repetitions, before the last with the instruction pointer where it
+   was. It is one instruction, as a processor's own counter has it: a trap that finds the pointer where it was is not counted.
 
    The stack is the lowest stack pointer seen, below the place of the return address. The 128 bytes under the pointer, which x86-64
    lets a function use that calls no other, are not seen by that. */
 #include "measure.h"
 
-int fork(void);
-int getpid(void);
-int kill(int pid, int signal);
-int waitpid(int pid, int *status, int options);
-void _exit(int status) __attribute__((noreturn));
-long ptrace(int request, ...);
+/* As the C library of x86-64 lays them out: what is to be done at a signal, and what a handler is given of the registers. */
+struct action {
+    void (*handler)(int signal, void *cause, void *context);
+    unsigned long masked[16];
+    int flags;
+    void (*restorer)(void);
+};
+struct context {
+    unsigned long head[5];
+    long registers[23];
+};
+int sigaction(int signal, const struct action *next, struct action *before);
 
-enum { TRACEME = 0, PEEKDATA = 2, PEEKUSER = 3, SINGLESTEP = 9 };
-enum { SIGKILL_ = 9, SIGTRAP_ = 5, SIGSTOP_ = 19 };
-/* Places in the kernel's `struct user` of x86-64. */
-enum { RIP = 16 * 8, RSP = 19 * 8 };
+enum { SIGTRAP_ = 5, WITH_CONTEXT = 4 };
+enum { RSP = 15, RIP = 16, FLAGS = 17 };
+enum { TRAP_FLAG = 0x100 };
 
-static int stopped_by(int status, int signal)
+/* The call that is counted: where it begins, where it returns to, and what was seen of it. */
+static struct {
+    enum { AWAITED, WITHIN, DONE } phase;
+    long entry, back, stack, at, lowest, instructions;
+} seen;
+
+static void trapped(int signal, void *cause, void *context)
 {
-    return (status & 0xFF) == 0x7F && (status >> 8 & 0xFF) == signal;
-}
-
-/* One instruction more. No more than `limit` are stepped in all, so that a fault ends in `not counted` and not in a wait. */
-static int step(int child, long *limit)
-{
-    int status;
-    return (*limit)-- > 0 && ptrace(SINGLESTEP, child, 0L, 0L) == 0 && waitpid(child, &status, 0) == child && stopped_by(status, SIGTRAP_);
-}
-
-static const struct cost NOT_COUNTED = {-1, -1};
-
-static struct cost counted(int child, long entry)
-{
-    long limit = 40000000;
-    while (ptrace(PEEKUSER, child, (long)RIP, 0L) != entry)
-        if (!step(child, &limit))
-            return NOT_COUNTED;
-    long stack = ptrace(PEEKUSER, child, (long)RSP, 0L), back = ptrace(PEEKDATA, child, stack, 0L), n = 0;
-    long at = entry, top = stack, lowest = stack;
-    do {
-        long before = at;
-        if (!step(child, &limit))
-            return NOT_COUNTED;
-        at = ptrace(PEEKUSER, child, (long)RIP, 0L);
-        top = ptrace(PEEKUSER, child, (long)RSP, 0L);
-        if (at != before)
-            n++;
-        if (top < lowest)
-            lowest = top;
-    } while (at != back || top <= stack);
-    return (struct cost){n, stack - lowest};
+    (void)signal, (void)cause;
+    long *registers = ((struct context *)context)->registers;
+    long at = registers[RIP], top = registers[RSP];
+    if (seen.phase == AWAITED && at == seen.entry) {
+        seen.phase = WITHIN;
+        seen.back = *(long *)top;
+        seen.stack = seen.lowest = top;
+    } else if (seen.phase == WITHIN) {
+        seen.instructions += at != seen.at;
+        if (top < seen.lowest)
+            seen.lowest = top;
+        if (at == seen.back && top > seen.stack) {
+            seen.phase = DONE;
+            registers[FLAGS] &= ~(long)TRAP_FLAG;
+        }
+    }
+    seen.at = at;
 }
 
 struct cost count(const struct calls *calls, enum work work)
 {
-    int child = fork(), status;
-    if (child < 0)
-        return NOT_COUNTED;
-    if (child == 0) {
-        if (ptrace(TRACEME, 0, 0L, 0L) != 0)
-            _exit(1);
-        kill(getpid(), SIGSTOP_);
-        perform(calls, work);
-        _exit(0);
-    }
-    if (waitpid(child, &status, 0) != child || !stopped_by(status, SIGSTOP_))
-        return NOT_COUNTED;
-    struct cost cost = counted(child, (long)code_of(calls, work));
-    kill(child, SIGKILL_);
-    waitpid(child, &status, 0);
-    return cost;
+    const struct action action = {.handler = trapped, .flags = WITH_CONTEXT};
+    if (sigaction(SIGTRAP_, &action, 0) != 0)
+        return (struct cost){-1, -1};
+    __builtin_memset(&seen, 0, sizeof seen);
+    seen.entry = (long)code_of(calls, work);
+    __builtin_ia32_writeeflags_u64(__builtin_ia32_readeflags_u64() | TRAP_FLAG);
+    perform(calls, work);
+    __builtin_ia32_writeeflags_u64(__builtin_ia32_readeflags_u64() & ~(unsigned long)TRAP_FLAG);
+    return seen.phase == DONE ? (struct cost){seen.instructions, seen.stack - seen.lowest} : (struct cost){-1, -1};
 }

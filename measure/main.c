@@ -182,7 +182,7 @@ static void counts(void)
                 least = n[s];
         }
         if (least < 0) {
-            printf("%-22s not counted: here no process can step another\n", name_of(w));
+            printf("%-22s not counted: here no instruction traps\n", name_of(w));
             continue;
         }
         printf("%-22s %8ld", name_of(w), n[0]);

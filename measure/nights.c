@@ -70,7 +70,7 @@ static void row(const struct calls *sets, const struct night *night, usize from,
     for (int s = 0; s < SETS; s++) {
         struct cost cost = spent(&sets[s], from, to);
         if (cost.instructions < 0) {
-            printf(" not counted: here no process can step another");
+            printf(" not counted: here no instruction traps");
             break;
         }
         stacks[s] = cost.stack > stacks[s] ? cost.stack : stacks[s];

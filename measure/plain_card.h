@@ -5,7 +5,7 @@
 enum { IDLE, READY, IDENT, STBY, TRAN, DATA_ONE, DATA_MANY, DATA_BITS, RCV_ONE, RCV_MANY, RCV_LOCK, PRG, DIS, INA, DATA_CSD, DATA_CID };
 enum { NO_TAGS, START_SECTORS, START_GROUPS, FULL_SECTORS, FULL_GROUPS };
 /* The bits of `mode`. */
-enum { SPI = 1, CHECKS = 2 };
+enum { SPI = 1, CHECKS = 256 };
 /* What goes before a block in SPI, and the data responses to one. */
 enum { START_BYTE = 0xFE, ACCEPTED = 0x05, BAD_CRC = 0x0B };
 enum { REGISTER = 16, LONGEST_PASSWORD = 16, LONGEST = 2048, GROUP = 8192, MOST_GROUPS = 4096 };

@@ -5,7 +5,7 @@
      - no pointer is null, and each points to as many bytes as the length behind it says, or as the comment says where there is none;
      - what a call writes to overlaps nothing else that it is given;
      - while a call runs, nobody else writes what it reads, or reads or writes what it writes.
-   No call keeps a pointer, allocates, waits, or calls anything of the C library but memcpy and memset. A call writes nothing but what its
+   No call keeps a pointer, allocates, waits, or calls anything of the C library but memcpy, memmove and memset. A call writes nothing but what its
    comment says.
 
    A call answers 0 where it was carried out, else the number that document 01 gives its refusal; a comment lists the numbers in the order
@@ -14,7 +14,7 @@
    Of a card's record a call writes the numbers that it may change, in the form that `struct mmc_numbers` gives them below: a frame and a block
    out the first nine, `state` to `mode`; a block in and power-on these, `locked` and `password_length`; work done `state`, where it is prg or
    dis; a make all thirteen. The others keep their form, also where they are wider than their fields. A frame or a block that is refused leaves
-   the record byte for byte, but for a frame refused 3 and a block refused 16 to 21: these may change it. */
+   the record byte for byte, but for a frame refused 3, which may change `errors` and nothing else, and a block refused 16 to 21. */
 #ifndef MMC_H
 #define MMC_H
 
@@ -72,10 +72,10 @@ enum mmc_tags {
     MMC_TAGS_GROUPS = 4        /* erase groups `first` to `last`, both within */
 };
 
-/* `mode`, by its two low bits; the others are not read, and are written as 0. A card in MMC mode has neither. */
+/* `mode`, by these two bits; the others are not read, and are written as 0. A card in MMC mode has neither. */
 enum mmc_mode {
-    MMC_SPI = 1,   /* the card is in SPI: since a CMD0 that came with its select line low, and until power-on */
-    MMC_CHECKS = 2 /* and it checks CRCs there: CMD59 switches that, and CMD0 switches it off */
+    MMC_SPI = 1,     /* the card is in SPI: since a CMD0 that came with its select line low, and until power-on */
+    MMC_CHECKS = 256 /* and it checks CRCs there: CMD59 switches that, and CMD0 switches it off */
 };
 
 struct mmc_numbers {

@@ -4,6 +4,7 @@
 --   tell-turn         one turn of the loop
 --   tell-alone        one turn at a card that is left alone
 --   turn-alone        a card that is left alone is as it was after its turn, and the line holds what it held
+--   lost-alone        a card that contends and loses is left alone
 --   turn-right        a card in its turn is told rightly whether it wins
 --   heard-start, heard-turn   one turn more
 --   heard-all         what is held after all turns
@@ -11,7 +12,7 @@
 --   filled            its bytes, copied to the front of zeros
 -- Assumes nothing.
 use mathlib.Core.Path.{_≡_, refl, sym, ap, ap₂, _∙_, subst}
-use mathlib.Core.Bool.{Bool, true, false}
+use mathlib.Core.Bool.{Bool, true, false, false≢true}
 use mathlib.Core.List.{List, [], _∷_, _++_, map, List·Memᴰ}
 use Prim.Native.Nat.{ℕ, zero, suc, _+_, _*_, _-_, _≤_, _<_, max}
 use native.Mathlib.Numerals.{add-one}
@@ -24,9 +25,8 @@ use Rattle.base.proofs.Cases.{cases}
 use Rattle.base.proofs.Copying.{copied-front}
 use Rattle.base.specs.Output.{copied}
 use Rattle.card_record.specs.Sending.{sentBytes}
-use Rattle.command.specs.Command.{leavesAlone}
+use Rattle.command.specs.Answers.{silent}
 use Rattle.command.specs.declared.Commanded.{Commanded}
-use Rattle.command.specs.declared.Decided.{Decided}
 use Rattle.crc.specs.Bits.{octets, Below}
 use Rattle.shared_line.proofs.Together.{together-is-and}
 use Rattle.shared_line.specs.Bytes.{anded, andedAll}
@@ -35,11 +35,11 @@ use Rattle.card_record.specs.Record.{withLink}
 use Rattle.card_record.specs.declared.Card.{Card}
 use Rattle.bus.proofs.Cids.{cid-line}
 use Rattle.bus.proofs.Lists.{changed, changed-next, change-turn, set-same, first-all, getD-in}
-use Rattle.bus.proofs.Taking.{taken-alone, taken-any}
+use Rattle.bus.proofs.Taking.{taken-any, taken-lost}
 use Rattle.bus.proofs.Winners.{holders}
 use Rattle.bus.specs.Bus.{countOf, cardsOf, withCards, winsLine, commandOn, commandAt, cardAfter, frameFrom, longestOf, frameSender, cidLine, andLine, lineOf, shownOf, padded}
 use Rattle.bus.specs.Contest.{lowFrom, lowFor, holdsLow, Held, HeldAll}
-use Rattle.bus.specs.Hearing.{quiet, heardOf, heardFrom, decidedAt, turnOf, sentOn, toldOf}
+use Rattle.bus.specs.Hearing.{quiet, heardOf, heardFrom, turnOf, sentOn, toldOf}
 use Rattle.bus.specs.declared.Bus.{Bus}
 use Rattle.bus.specs.declared.Framed.{Framed}
 use Rattle.bus.specs.declared.Heard.{Heard}
@@ -101,12 +101,11 @@ unfolding heardOf
 quiet-heard heard = let e : max (heard .length) 0 ≡ heard .length = omega arith in ap₂ held (and-nothing (heard .line)) e
 
 pub turn-alone : (heard : Heard) (card : Card) (wins : Bool) (index argument : ℕ)
-    → leavesAlone (decidedAt card wins index argument) ≡ true
+    → commandOn card wins index argument ≡ silent (card .link)
     → turnOf heard card wins index argument ≡ turned card heard
 unfolding turnOf sentBytes
 turn-alone heard card wins index argument e =
-    ap (λ (g : Commanded). turnedBy heard card g) (taken-alone card wins index argument e)
-    ∙ ap (λ (h : Heard). turned card h) (quiet-heard heard)
+    ap (λ (g : Commanded). turnedBy heard card g) e ∙ ap (λ (h : Heard). turned card h) (quiet-heard heard)
 
 -- ---- who wins
 pub turn-right : (bus : Bus) (index argument : ℕ) (low : Low) (card : Card) → low ≡ lowFor bus index → HeldAll bus index
@@ -149,19 +148,29 @@ module _ (bus : Bus) (index argument : ℕ) where
       ap (λ (t : Turned). t .heard) told ∙ ap (λ (g : Commanded). heardOf heard (sentBytes (card .registers) (g .sent))) right in
       (change-turn after i cards next (turned .card) d en is, heard-turn frame cards i d heard (turned .heard) (omega arith) eh holdsLow)
 
-  pub tell-alone : (i : ℕ) (d : Card) (low : Low) (next : List Card) (heard : Heard) (won : Bool) (decided : Decided)
+  pub tell-alone : (i : ℕ) (d : Card) (low : Low) (next : List Card) (heard : Heard) (won : Bool)
       → length (bus .cards) ≡ 30 → i < countOf bus → low ≡ lowFor bus index → HeldAll bus index
       → next ≡ changed after i (bus .cards) → heard ≡ heardFrom quiet (map frame (take i (bus .cards)))
-      → won ≡ holdsLow low (getD next i d) → decided ≡ decidedAt (getD next i d) won index argument
-      → leavesAlone decided ≡ true
+      → won ≡ holdsLow low (getD next i d) → commandOn (getD next i d) won index argument ≡ silent (getD next i d .link)
       → (next ≡ changed after (i + 1) (bus .cards)) × (heard ≡ heardFrom quiet (map frame (take (i + 1) (bus .cards))))
-  tell-alone i d low next heard won decided long there found held en eh ew ed alone =
+  tell-alone i d low next heard won long there found held en eh ew alone =
       let card : Card = getD next i d in
       let told : Turned = turnOf heard card won index argument in
       let more = tell-turn i d low next heard won told long there found held en eh ew refl in
-      let same : told ≡ turned card heard = turn-alone heard card won index argument (ap leavesAlone (sym ed) ∙ alone) in
+      let same : told ≡ turned card heard = turn-alone heard card won index argument alone in
       let kept = sym (set-same next i d) ∙ ap (λ (t : Turned). set next i (t .card)) (sym same) in
       (kept ∙ more .0, ap (λ (t : Turned). t .heard) (sym same) ∙ more .1)
+
+  -- a loser: the contest is CMD2's alone
+  pub lost-alone : (low : Low) (card : Card) → low ≡ lowFor bus index → low .any ≡ true → commandOn card false index argument ≡ silent (card .link)
+  unfolding lowFor noLow
+  lost-alone low card found any =
+      cases (eqb index 2)
+      (λ (t : eqb index 2 ≡ true).
+      subst (λ (k : ℕ). commandOn card false k argument ≡ silent (card .link)) (sym (eqb-true index 2 t)) (taken-lost card argument))
+      (λ (t : eqb index 2 ≡ false).
+      let none : low .any ≡ false = ap (λ (l : Low). l .any) (simp t at found) in
+      absurd (false≢true (sym none ∙ any)))
 
 -- ---- all at once
 pub line-is-heard : (bus : Bus) (index argument : ℕ) (heard : Heard) → HeldAll bus index → heard .length ≤ 17 → Below 256 (heard .line)

@@ -6,23 +6,22 @@
 --   better-.., holds-..   the step of the search and the question, as code tells their cases apart
 -- Assumes nothing.
 use mathlib.Core.Path.{_≡_, refl, sym, ap, _∙_, subst}
-use mathlib.Core.Bool.{Bool, true, false, not, false≢true}
+use mathlib.Core.Bool.{Bool, true, false, _&&_, false≢true}
 use mathlib.Core.List.{List, [], _∷_, _++_, map, List·Memᴰ, List·Memᴰ·head, List·Memᴰ·tail, List·Memᴰ·not-nil, Memᴰ·map, Memᴰ·of-map}
 use mathlib.Core.Logic.{_⊎_, inl, inr, ⊎-elim}
 use Prim.Native.Nat.{ℕ, _+_, _*_, _≤_, _<_}
 use native.Mathlib.Nat.{le-refl, le-trans}
 use native.Mathlib.Numerals.{add-one}
 use native.Mathlib.Omega.{arith}
-use borrow.Author.Tests.{not-true, not-false}
 use lib.ListN.{length, take, getD}
 use lib.Seq.{take-suc}
-use Rattle.base.proofs.Cases.{cases}
+use Rattle.base.proofs.Cases.{cases, last}
 use Rattle.crc.proofs.Bits.{length-bits, bits-below}
 use Rattle.crc.specs.Bits.{bits, spelt, Below}
 use Rattle.shared_line.proofs.Arbitration.{Bitwise, bitwise, winners, line-is-smallest}
 use Rattle.shared_line.proofs.Orders.{by-order}
 use Rattle.shared_line.specs.Line.{Sender, contested}
-use Rattle.shared_line.specs.Lowest.{cidNumber, noLow, lowerOf, isLow}
+use Rattle.shared_line.specs.Lowest.{cidNumber, noLow, lowBy, isLower, lowerOf, isLow}
 use Rattle.shared_line.specs.declared.Low.{Low}
 use Rattle.card_record.specs.declared.Card.{Card}
 use Rattle.bus.specs.Bus.{isReady, cidSender, cidBits, winsLine}
@@ -49,7 +48,7 @@ low-turn low was now cards i d h p q =
 -- one step: what was found is no larger, and a Ready card's CID is no smaller than what is found
 better-old : (low : Low) (card : Card) → low .any ≡ true
     → (betterOf low card .any ≡ true) × (cidNumber (betterOf low card .cid) ≤ cidNumber (low .cid))
-unfolding betterOf lowerOf
+unfolding betterOf lowerOf isLower
 better-old low card any =
     cases (isReady card)
     (λ r. by-order (cidOf card) (low .cid)
@@ -60,7 +59,7 @@ better-old low card any =
 
 better-new : (low : Low) (card : Card) → isReady card ≡ true
     → (betterOf low card .any ≡ true) × (cidNumber (betterOf low card .cid) ≤ cidNumber (cidOf card))
-unfolding betterOf lowerOf
+unfolding betterOf lowerOf isLower
 better-new low card r =
     cases (low .any)
     (λ any. by-order (cidOf card) (low .cid)
@@ -70,7 +69,7 @@ better-new low card r =
     (λ any. rw (r, any) (refl, le-refl (cidNumber (cidOf card))))
 
 better-from : (low : Low) (card : Card) → (betterOf low card ≡ low) ⊎ ((isReady card ≡ true) × (betterOf low card .cid ≡ cidOf card))
-unfolding betterOf lowerOf
+unfolding betterOf lowerOf isLower
 better-from low card =
     cases (isReady card)
     (λ r. cases (low .any)
@@ -78,23 +77,34 @@ better-from low card =
     (λ any. inr (r, rw (r, any))))
     (λ r. inl (rw r))
 
--- the answers of the step and of the question, from the test that code makes
-module _ (low : Low) (card : Card) (ready : Bool) (told : ready ≡ isReady card) where
-  pub better-silent : not ready ≡ true → low ≡ betterOf low card
-  unfolding betterOf
-  better-silent r = let e = sym told ∙ not-true ready r in rw e
+-- the answers of the step and of the question, from the tests that code makes
+module _ (low : Low) (card : Card) where
+  module _ (ready : Bool) (told : ready ≡ isReady card) where
+    pub better-silent : ready ≡ false → low ≡ betterOf low card
+    unfolding betterOf
+    better-silent r = let e = sym told ∙ r in rw e
 
-  pub better-sent : not ready ≡ false → lowerOf low (cidOf card) ≡ betterOf low card
-  unfolding betterOf
-  better-sent r = let e = sym told ∙ not-false ready r in rw e
+    module _ (sent : ready ≡ true) (lower : Bool) (asked : lower ≡ isLower low (cidOf card)) where
+      pub better-taken : lower ≡ true → lowBy (cidOf card) ≡ betterOf low card
+      unfolding betterOf lowerOf
+      better-taken l = let e = sym told ∙ sent in let f = sym asked ∙ l in rw (e, f)
 
-  pub holds-silent : not ready ≡ true → false ≡ holdsLow low card
-  unfolding holdsLow
-  holds-silent r = let e = sym told ∙ not-true ready r in rw e
+      pub better-left : lower ≡ false → low ≡ betterOf low card
+      unfolding betterOf lowerOf
+      better-left l = let e = sym told ∙ sent in let f = sym asked ∙ l in rw (e, f)
 
-  pub holds-sent : not ready ≡ false → isLow low (cidOf card) ≡ holdsLow low card
-  unfolding holdsLow
-  holds-sent r = let e = sym told ∙ not-false ready r in rw e
+  -- a card that contends is asked; one that does not holds nothing that was found
+  module _ (arises : Bool) (told : arises ≡ (low .any && isReady card)) where
+    pub holds-asked : {won : Bool} → arises ≡ true → won ≡ isLow low (cidOf card) → won ≡ holdsLow low card
+    unfolding holdsLow isLow
+    holds-asked a asked = let r = last (low .any) (isReady card) (sym told ∙ a) in rw r asked
+
+    pub holds-silent : arises ≡ false → false ≡ holdsLow low card
+    unfolding holdsLow isLow
+    holds-silent a =
+        cases (low .any)
+        (λ any. let r : isReady card ≡ false = rw any at (sym told ∙ a) in rw r)
+        (λ any. cases (isReady card) (λ r. rw (r, any)) (λ r. rw r))
 
 low-old : (low : Low) (cards : List Card) → low .any ≡ true
     → (lowFrom low cards .any ≡ true) × (cidNumber (lowFrom low cards .cid) ≤ cidNumber (low .cid))

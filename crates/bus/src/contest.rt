@@ -4,12 +4,16 @@ use crate::Bus;
 use crate::places;
 use card_record::Card;
 use shared_line::Low;
+ghost use mathlib.Core.Bool.{_&&_};
 ghost use mathlib.Core.Path.{_≡_};
 ghost use Rattle.bus.specs.Bus.{isReady};
-ghost use Rattle.bus.specs.Contest.{betterOf, lowFor, holdsLow, Held, HeldAll};
+ghost use Rattle.bus.specs.Contest.{cidOf, lowFor, Held, HeldAll};
+ghost use Rattle.shared_line.specs.Lowest.{isLow};
 
+// Whether a card is Ready, and what its type says of its CID.
 fn is_ready(card: Card) -> bool
-    ensures { λ r. ⌜ r ≡ isReady card ⌝ }
+    ensures answer { λ r. ⌜ r ≡ isReady card ⌝ }
+    ensures bytes { λ _. ⌜ Held card ⌝ }
 {
     if card.mode.spi {
         return false;
@@ -20,20 +24,8 @@ fn is_ready(card: Card) -> bool
     states::number(on) == 1
 }
 
-// The smaller of what was found and a card's CID, if it sends it.
-fn better(low: Low, card: Card) -> Low
-    ensures answer { λ r. ⌜ r ≡ betterOf low card ⌝ }
-    ensures bytes { λ _. ⌜ Held card ⌝ }
-{
-    let registers = card.registers;
-    let cid = registers.cid;
-    if !is_ready(card) {
-        return low;
-    }
-    shared_line::lower(low, cid)
-}
-
-// The smallest CID among the Ready cards, for CMD2 alone.
+// The smallest CID among the Ready cards, for CMD2 alone. What was found is made anew only where a
+// lower one comes, since it is copied.
 pub fn lowest(bus: Bus, index: u8) -> Low
     ensures answer { λ r. ⌜ r ≡ lowFor bus index ⌝ }
     ensures bytes { λ _. ⌜ HeldAll bus index ⌝ }
@@ -46,19 +38,33 @@ pub fn lowest(bus: Bus, index: u8) -> Low
     let mut i: usize = 0;
     while i < end {
         let card = bus.cards[i];
-        low = better(low, card);
+        if is_ready(card) {
+            let registers = card.registers;
+            let cid = registers.cid;
+            if shared_line::is_lower(low, cid) {
+                low = Low { any: true, cid };
+            }
+        }
         i += 1;
     }
     low
 }
 
-// Whether a card sends its CID and it is the smallest.
-pub fn wins(low: Low, card: Card) -> bool
-    ensures answer { λ r. ⌜ r ≡ holdsLow low card ⌝ }
+// Whether a card contends in CMD2: some Ready card's CID was found, and it is Ready itself. What was
+// found is handed over only where it is asked for (`holds`), since it is copied.
+pub fn contends(any: bool, card: Card) -> bool
+    ensures { λ r. ⌜ r ≡ (any && isReady card) ⌝ }
 {
-    if !is_ready(card) {
+    if !any {
         return false;
     }
+    is_ready(card)
+}
+
+// Whether a card that contends holds the smallest CID.
+pub fn holds(low: Low, card: Card) -> bool
+    ensures { λ r. ⌜ r ≡ isLow low (cidOf card) ⌝ }
+{
     let registers = card.registers;
     let cid = registers.cid;
     shared_line::is_low(low, cid)

@@ -8,8 +8,9 @@ mod hearing;
 
 use base::Refusal;
 use card_record::Card;
+use contest::contends;
+use contest::holds;
 use contest::lowest;
-use contest::wins;
 use hearing::asked_of;
 use hearing::decide;
 use hearing::line_by;
@@ -187,28 +188,30 @@ fn damage(bus: Bus) -> Bus
 }
 
 // A frame for all cards: 13, 1, 2, 3, 14. Each card takes a command in its turn, in the order of
-// their places, and what it sends is ANDed into the line; one that is left alone stays in its place.
-// The loop stands here, since each function that hands the bus on copies all of it twice.
+// their places, and what it sends is ANDed into the line; one that is left alone, as every loser of
+// CMD2 is, stays in its place. The loop stands here, since each function that hands the bus on copies
+// all of it twice.
 pub fn frame(bus: Bus, frame: &[u8]) -> Framed
     ensures answer { λ r. ⌜ r ≡ busFrame bus (now (frame .entry)) ⌝ }
 {
     let end = places(bus.count);
     let asked = asked_of(end, frame);
     match asked {
-        Asked::Refused(refusal) => {
-            return refuse(bus, refusal);
-        }
-        Asked::Damaged => {
-            return refuse(damage(bus), Refusal::FrameCrc);
-        }
+        Asked::Refused(refusal) => return refuse(bus, refusal),
+        Asked::Damaged => return refuse(damage(bus), Refusal::FrameCrc),
         Asked::Command { index, argument } => {
             let low = lowest(bus, index);
             let mut next = bus;
             let mut heard = quiet();
-            let mut i: usize = 0;
-            while i < end {
+            for i in 0..end {
                 let seen = next.cards[i];
-                let won = wins(low, seen);
+                let mut won = false;
+                if contends(low.any, seen) {
+                    if !holds(low, seen) {
+                        continue;
+                    }
+                    won = true;
+                }
                 let decided = decide(seen, won, index, argument);
                 if !command::leaves_alone(decided) {
                     let card = next.cards[i];
@@ -217,7 +220,6 @@ pub fn frame(bus: Bus, frame: &[u8]) -> Framed
                     next.cards[i] = after;
                     heard = turned.heard;
                 }
-                i += 1;
             }
             return Framed {
                 bus: next,

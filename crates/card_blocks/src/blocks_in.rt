@@ -172,15 +172,19 @@ fn lock_judged(card: Card, payload: &[u8]) -> BlockJudged
     }
 }
 
-// What a block of the right length with the right CRC16 does.
+// What a block of the right length with the right CRC16 does. A write is judged by one call, so
+// that the compiler copies it in here.
 fn carried_out(card: Card, incoming: Incoming, payload: &[u8], map: &[u8]) -> BlockJudged
     ensures { λ r. ⌜ r ≡ carriedOut card incoming (now (payload .entry)) (now (map .entry)) ⌝ }
 {
-    match incoming {
-        Incoming::One(at) => write_judged(card, incoming, at / SECTOR, map),
-        Incoming::Many(at) => write_judged(card, incoming, at / SECTOR, map),
-        Incoming::LockRequest => lock_judged(card, payload),
-    }
+    let at = match incoming {
+        Incoming::One(at) => at,
+        Incoming::Many(at) => at,
+        Incoming::LockRequest => {
+            return lock_judged(card, payload);
+        }
+    };
+    write_judged(card, incoming, at / SECTOR, map)
 }
 
 // An awaited block of the right length behind its start byte: 17.
@@ -268,8 +272,7 @@ fn store(storing: Storing, block: &[u8], memory: &mut [u8], map: &mut [u8])
     }
 }
 
-// A block in at a card that is lent what is its own: judged, and then stored. Memory's contents are
-// not looked at.
+// A block in at a card that is lent what is its own: judged, memory's contents unread, then stored.
 pub fn taken_in(card: Card, block: &[u8], memory: &mut [u8], map: &mut [u8]) -> Stepped
     ensures answer { λ r. ⌜ r ≡ stateJudged card (card .link .state) (now (block .entry)) (now (map .entry)) .stepped ⌝ }
     ensures lent { λ _. ⌜ lentOf (now (memory .exit)) (now (map .exit)) ≡ storedBy (unstarted (card .mode .spi) (now (block .entry))) (stateJudged card (card .link .state) (now (block .entry)) (now (map .entry)) .storing) (lentOf (now (memory .entry)) (now (map .entry))) ⌝ }

@@ -115,17 +115,26 @@ fn bytes_judged(card: Card, n: u16, sending: Sending, room: usize) -> OutJudged
     out_good(card, State::Tran, n, sending)
 }
 
+// What is to go out: 6, and of memory 18 and 21. A part of memory is judged by one call, so that the
+// compiler copies it in here.
 fn outgoing_judged(card: Card, outgoing: Outgoing, room: usize) -> OutJudged
     ensures { λ r. ⌜ r ≡ outgoingJudged card outgoing room ⌝ }
 {
+    let at = match outgoing {
+        Outgoing::One(at) => at,
+        Outgoing::Many(at) => at,
+        Outgoing::Protection(group) => {
+            return bytes_judged(card, 4, Sending::Protection(group), room);
+        }
+        Outgoing::Csd => {
+            return bytes_judged(card, 16, Sending::Csd, room);
+        }
+        Outgoing::Cid => {
+            return bytes_judged(card, 16, Sending::Cid, room);
+        }
+    };
     let n = card_record::read_length(card.link.length);
-    match outgoing {
-        Outgoing::One(at) => part_judged(card, outgoing, at, n, room),
-        Outgoing::Many(at) => part_judged(card, outgoing, at, n, room),
-        Outgoing::Protection(group) => bytes_judged(card, 4, Sending::Protection(group), room),
-        Outgoing::Csd => bytes_judged(card, 16, Sending::Csd, room),
-        Outgoing::Cid => bytes_judged(card, 16, Sending::Cid, room),
-    }
+    part_judged(card, outgoing, at, n, room)
 }
 
 // Whether anything is to go out at all: 15.
@@ -224,19 +233,21 @@ fn send_block(
     }
 }
 
-// What was judged, at the front of the output; in SPI behind its start byte.
+// What was judged, at the front of the output; in SPI behind its start byte. The block is sent by one
+// call, so that the compiler copies it in here.
 fn send(card: Card, sending: Sending, memory: &[u8], map: &[u8], out: &mut [u8])
     ensures { λ _. ⌜ now (out .exit) ≡ sentOut card (lentOf (now (memory .entry)) (now (map .entry))) sending (now (out .entry)) ⌝ }
 {
     let registers = card.registers;
-    if !card.mode.spi {
-        send_block(registers, sending, memory, map, out);
+    let before = beside(card.mode.spi) - 2;
+    if out.len() < before {
         return;
     }
-    if out.len() < 1 {
+    let sent = send_block(registers, sending, memory, map, &mut out[before..]);
+    if !sent {
         return;
     }
-    if send_block(registers, sending, memory, map, &mut out[1..]) {
+    if card.mode.spi {
         out[0] = START;
     }
 }

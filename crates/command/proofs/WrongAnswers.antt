@@ -40,6 +40,13 @@
 -- Of the tags:
 --   status-drops             CMD13 drops tags
 --   read-keeps               CMD17 keeps tags
+-- Of MMC mode's answers alone:
+--   reset-answered           CMD0 has an R1
+--   deselected-answers       CMD7 for another card has one
+--   csd-for-cid              CMD10 sends the CSD
+--   silence-sends            no answer is an R1
+--   r1-keeps                 R1 leaves bit 31 pending
+--   silence-clears           no answer clears it
 -- Of a card left alone:
 --   illegal-left-alone       CMD17 in data, which sets bit 22, leaves it alone
 --   reset-left-alone         CMD0 in idle leaves it alone
@@ -67,13 +74,15 @@ use Rattle.tags.specs.Tagging.{noTags, tagsOf, endTagged}
 use Rattle.tags.specs.declared.Kind.the-variants.{Sectors}
 use Rattle.tags.specs.declared.Range.the-variants.{Nothing, Start}
 use Rattle.tags.specs.declared.Tags.{Tags}
-use Rattle.command.specs.Answers.{responseOf, answered}
+use Rattle.command.specs.Answers.{responseOf, sentOf, leftOf, answered}
 use Rattle.command.specs.Arguments.{argumentFault}
 use Rattle.command.specs.Command.{damagedLink, takenOf, commandOf, leavesAlone, decidedOf}
 use Rattle.command.specs.Obey.{dropsTags, passesLock, taggingOf, judgedOf, resetTold, awaitedBy, obeyed, changeOf, afterChecks, actedOf}
 use Rattle.command.specs.declared.Change.the-variants.{Protect, Erase}
 use Rattle.command.specs.declared.Met.{Met}
-use Rattle.card_record.specs.declared.Sent.the-variants.{Status}
+use Rattle.command.specs.declared.Response.the-variants.{Nothing as NoAnswer, R1, R2}
+use Rattle.card_record.specs.declared.Sent.the-variants.{Status, Csd}
+use Rattle.moves.specs.declared.Row.the-variants.{GoIdleState, DeselectCard}
 
 -- a card of address 1 and block length 512, with a state, pending bits and tags
 abbrev card : State → ℕ → Tags → Link
@@ -227,3 +236,24 @@ winner-left-alone e = clash cc
 loser-not-left : leavesAlone (decidedOf (card Ready 0 noTags) (record { ocr = 0x00FF8000; groups = 1; locked = false; wins = false }) 2 0) ≡ false → ⊥
 unfolding rowOf moveOf
 loser-not-left e = clash cc
+
+-- ---- MMC mode's answers
+reset-answered : responseOf GoIdleState ≡ R1 → ⊥
+unfolding responseOf
+reset-answered e = clash cc
+
+deselected-answers : responseOf DeselectCard ≡ R1 → ⊥
+unfolding responseOf
+deselected-answers e = clash cc
+
+csd-for-cid : sentOf R2 10 0 ≡ Csd → ⊥
+csd-for-cid e = clash cc
+
+silence-sends : sentOf NoAnswer 13 0 ≡ Status 13 0 → ⊥
+silence-sends e = clash cc
+
+r1-keeps : leftOf R1 (record { bits = 0x80000000 }) .bits ≡ 0x80000000 → ⊥
+r1-keeps e = omega arith
+
+silence-clears : leftOf NoAnswer (record { bits = 0x80000000 }) .bits ≡ 0 → ⊥
+silence-clears e = omega arith

@@ -3,8 +3,9 @@
 // does to a card stands in obey.rt, whatever the mode; which commands are taken, what they answer
 // and which error bits they clear, as MMC mode has it, stands here. No call has a `requires`.
 //
-// Offers: `Met`, `Change`, `Acted`, `act`; `Commanded`, `command`; its two parts, `Decided`,
-// `decide`, `leaves_alone` and `follow`; `damaged`.
+// Offers: `Met`, `Change`, `Acted`, `act`; a command in its two parts, `Decided`, `decide`,
+// `leaves_alone`, and `Commanded`, `follow`; how MMC mode answers, `Response`, `response_of`, `respond`,
+// `left`; `damaged`.
 mod arguments;
 mod obey;
 
@@ -19,15 +20,15 @@ use status::ErrorBit;
 use status::Errors;
 ghost use mathlib.Core.Path.{_≡_};
 ghost use Rattle.command.specs.Answers.{responseOf, registerSent, sentOf, leftOf, answered, silent};
-ghost use Rattle.command.specs.Command.{receivedOf, damagedLink, takenOf, movedBy, commandOf, decidedOf, leavesAlone};
+ghost use Rattle.command.specs.Command.{receivedOf, damagedLink, takenOf, movedBy, decidedOf, leavesAlone};
 
-// What a command meets at a card beside the link: the OCR, the size in protection groups, the lock
-// flag, and whether the card would win the line in CMD2.
+// What a command meets at a card beside the link: whether the card would win the line in CMD2, the
+// lock flag, the size in protection groups, and the OCR.
 pub struct Met {
-    pub ocr: u32,
-    pub groups: u16,
-    pub locked: bool,
     pub wins: bool,
+    pub locked: bool,
+    pub groups: u16,
+    pub ocr: u32,
 }
 
 // What a command changes in what is lent: nothing; a protection group set or cleared; the tagged
@@ -67,8 +68,8 @@ pub enum Response {
     R3,
 }
 
-fn response_of(row: Row) -> Response
-    ensures { λ r. ⌜ r ≡ responseOf row ⌝ }
+pub fn response_of(row: Row) -> Response
+    ensures answer { λ r. ⌜ r ≡ responseOf row ⌝ }
 {
     match row {
         Row::GoIdleState => Response::Nothing,
@@ -104,8 +105,8 @@ fn register(index: u8) -> Sent
     Sent::Cid
 }
 
-fn respond(response: Response, index: u8, status: u32) -> Sent
-    ensures { λ r. ⌜ r ≡ sentOf response index status ⌝ }
+pub fn respond(response: Response, index: u8, status: u32) -> Sent
+    ensures answer { λ r. ⌜ r ≡ sentOf response index status ⌝ }
 {
     match response {
         Response::Nothing => Sent::Nothing,
@@ -116,8 +117,8 @@ fn respond(response: Response, index: u8, status: u32) -> Sent
 }
 
 // The error bits that a taken command leaves pending: R1 clears all that it reports.
-fn left(response: Response, errors: Errors) -> Errors
-    ensures { λ r. ⌜ r ≡ leftOf response errors ⌝ }
+pub fn left(response: Response, errors: Errors) -> Errors
+    ensures answer { λ r. ⌜ r ≡ leftOf response errors ⌝ }
 {
     match response {
         Response::Nothing => status::clear_command_bits(errors),
@@ -238,12 +239,4 @@ pub fn follow(link: Link, met: Met, index: u8, argument: u32, decided: Decided) 
         }),
         Move::To(column) => take(link, met, asked, row, column),
     }
-}
-
-// A command at a card, from check 1 on.
-pub fn command(link: Link, met: Met, index: u8, argument: u32) -> Commanded
-    ensures answer { λ r. ⌜ r ≡ commandOf link met index argument ⌝ }
-{
-    let decided = decide(link, met, index, argument);
-    follow(link, met, index, argument, decided)
 }

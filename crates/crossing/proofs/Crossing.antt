@@ -6,6 +6,7 @@
 --   mode-behind, lock-behind, registers-behind     the numbers of parts that are told one after the other
 --   nine, eleven                                   how many numbers the link and the mode have, and these with the lock
 --   link-told, link-and-lock-told                  numbers of which only these parts are told stand for the record with these parts changed
+--   link-errors, errors-told                       numbers of which the error bits' alone is told stand for the record with these
 --   own-password                                   the password of the record that numbers and bytes stand for is those bytes
 -- Assumes nothing.
 use mathlib.Core.Path.{_≡_, refl, _∙_}
@@ -15,9 +16,9 @@ use Prim.Native.Nat.{ℕ, _+_, _*_, _/_, _%_, _<_}
 use native.Mathlib.Nat.{mod-eq-of-lt}
 use native.Mathlib.Omega.{arith}
 use lib.Dec.{eqb}
-use lib.ListN.{length, take, drop, drop-of-length-le}
-use lib.Seq.{getD-drop, drop-drop}
-use Rattle.card_record.specs.Record.{withLink, withLock, withMode}
+use lib.ListN.{length, take, drop, set, drop-of-length-le}
+use lib.Seq.{getD-drop, getD-set-same, getD-set-other, drop-drop}
+use Rattle.card_record.specs.Record.{withErrors, withLink, withLock, withMode}
 use Rattle.card_record.specs.declared.Card.{Card}
 use Rattle.card_record.specs.declared.Link.{Link}
 use Rattle.card_record.specs.declared.Mode.{Mode}
@@ -27,6 +28,7 @@ use Rattle.states.specs.declared.Outgoing.the-variants.{One, Many, Protection, 
 use Rattle.states.specs.declared.State.{State}
 use Rattle.states.specs.declared.State.the-variants.{Idle, Ready, Ident, Stby, Tran, Data, Rcv, Prg, Dis, Ina}
 use Rattle.status.specs.Status.{flag}
+use Rattle.status.specs.declared.Errors.{Errors}
 use Rattle.tags.specs.Tagging.{tagsOf, firstOf}
 use Rattle.tags.specs.declared.Kind.the-variants.{Sectors, Groups}
 use Rattle.tags.specs.declared.Range.{Range}
@@ -65,13 +67,13 @@ flag-crosses true = refl
 flag-crosses false = refl
 
 -- any mode crosses, also the one that checks CRCs and is not in SPI
-spi-crosses : (spi checks : Bool) → eqb ((flag spi + 2 * flag checks) % 2) 1 ≡ spi
+spi-crosses : (spi checks : Bool) → eqb ((flag spi + 256 * flag checks) % 2) 1 ≡ spi
 spi-crosses true true = refl
 spi-crosses true false = refl
 spi-crosses false true = refl
 spi-crosses false false = refl
 
-checks-cross : (spi checks : Bool) → eqb ((flag spi + 2 * flag checks) / 2 % 2) 1 ≡ checks
+checks-cross : (spi checks : Bool) → eqb ((flag spi + 256 * flag checks) / 256 % 2) 1 ≡ checks
 checks-cross true true = refl
 checks-cross true false = refl
 checks-cross false true = refl
@@ -172,3 +174,32 @@ link-and-lock-told link mode lock numbers cid csd password link-stands mode-stan
 pub own-password : (numbers cid csd password : List ℕ) → cardOf numbers cid csd password .lock .password ≡ password
 unfolding cardOf lockOf
 own-password numbers cid csd password = refl
+
+-- the number of the error bits told in its place: the link has these, and the rest of the card is as it was
+module _ (numbers : List ℕ) (errors : Errors) where
+  pub link-errors : 4 < length numbers → linkOf (set numbers 4 (errors .bits)) ≡ withErrors (linkOf numbers) errors
+  unfolding linkOf
+  link-errors long =
+      simp (
+        getD-set-same numbers 4 (errors .bits) 0 long,
+        getD-set-other numbers 4 0 (errors .bits) 0 (λ e. omega arith),
+        getD-set-other numbers 4 1 (errors .bits) 0 (λ e. omega arith),
+        getD-set-other numbers 4 2 (errors .bits) 0 (λ e. omega arith),
+        getD-set-other numbers 4 3 (errors .bits) 0 (λ e. omega arith),
+        getD-set-other numbers 4 5 (errors .bits) 0 (λ e. omega arith),
+        getD-set-other numbers 4 6 (errors .bits) 0 (λ e. omega arith),
+        getD-set-other numbers 4 7 (errors .bits) 0 (λ e. omega arith),
+      )
+
+  pub errors-told : (cid csd password : List ℕ) → linkOf (set numbers 4 (errors .bits)) ≡ withErrors (linkOf numbers) errors
+      → cardOf (set numbers 4 (errors .bits)) cid csd password ≡ withLink (cardOf numbers cid csd password) (withErrors (linkOf numbers) errors)
+  unfolding cardOf modeOf lockOf registersOf
+  errors-told cid csd password stands =
+      simp (
+        stands,
+        getD-set-other numbers 4 8 (errors .bits) 0 (λ e. omega arith),
+        getD-set-other numbers 4 9 (errors .bits) 0 (λ e. omega arith),
+        getD-set-other numbers 4 10 (errors .bits) 0 (λ e. omega arith),
+        getD-set-other numbers 4 11 (errors .bits) 0 (λ e. omega arith),
+        getD-set-other numbers 4 12 (errors .bits) 0 (λ e. omega arith),
+      )

@@ -9,7 +9,7 @@
 --   unlocked-as-1      an unlocked record told as locked
 --   mode-lost          a card in SPI told as one in MMC mode
 --   spi-by-6           SPI read from any number but 0, where bit 0 says it
---   checks-by-1        checking read from any number but 0, where bit 1 says it
+--   checks-by-1        checking read from any number but 0, where bit 8 says it
 -- Assumes nothing.
 use mathlib.Core.Path.{_≡_, sym}
 use mathlib.Core.Bool.{true, false}

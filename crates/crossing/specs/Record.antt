@@ -72,9 +72,9 @@ linkOf numbers =
       tags = tagsBy (getD numbers 5 0) (getD numbers 6 0) (getD numbers 7 0);
     }
 
--- bit 0 says that the card is in SPI, bit 1 that it checks CRCs there
+-- bit 0 says that the card is in SPI, bit 8 that it checks CRCs there
 unfoldable pub modeOf : List ℕ → Mode
-modeOf numbers = record { spi = eqb (getD numbers 8 0 % 2) 1; checks = eqb (getD numbers 8 0 / 2 % 2) 1 }
+modeOf numbers = record { spi = eqb (getD numbers 8 0 % 2) 1; checks = eqb (getD numbers 8 0 / 256 % 2) 1 }
 
 unfoldable pub lockOf : List ℕ → List ℕ → Lock
 lockOf numbers password = record { password = password; length = getD numbers 10 0 % 256; locked = lockedOf numbers }
@@ -157,7 +157,7 @@ lastOf (Full kind first last) = last
 
 -- the mode's number, by its two bits
 abbrev pub modeNumber : Mode → ℕ
-modeNumber mode = flag (mode .spi) + 2 * flag (mode .checks)
+modeNumber mode = flag (mode .spi) + 256 * flag (mode .checks)
 
 -- the numbers of each part, eight, one, two and two
 unfoldable pub linkNumbers : Link → List ℕ

@@ -15,17 +15,29 @@ use tags::Kind;
 use tags::Range;
 use tags::Tags;
 ghost use mathlib.Core.Path.{_≡_};
+ghost use Prim.Native.Nat.{ℕ, _<_, _≤_};
 ghost use Rattle.crossing.specs.Record.{stateOf, tagsBy, groupsOf, lockedOf, linkOf, modeOf, registersOf, cardOf};
 
-fn state_of(number: u32, at: u32) -> State
-    ensures { λ r. ⌜ r ≡ stateOf number at ⌝ }
+// The states that carry no work, up to Transfer: whatever place stands beside the number.
+fn at_rest(number: u32) -> State
+    requires { ⌜ number < 5 ⌝ }
+    ensures { λ r. ⌜ ((at : ℕ) → r ≡ stateOf number at) ⌝ }
 {
     match number {
         0 => State::Idle,
         1 => State::Ready,
         2 => State::Ident,
         3 => State::Stby,
-        4 => State::Tran,
+        _ => State::Tran,
+    }
+}
+
+// The states behind Transfer.
+fn at_work(number: u32, at: u32) -> State
+    requires { ⌜ 5 ≤ number ⌝ }
+    ensures { λ r. ⌜ r ≡ stateOf number at ⌝ }
+{
+    match number {
         5 => State::Data(Outgoing::One(at)),
         6 => State::Data(Outgoing::Many(at)),
         7 => State::Data(Outgoing::Protection(at)),
@@ -38,6 +50,16 @@ fn state_of(number: u32, at: u32) -> State
         15 => State::Data(Outgoing::Cid),
         _ => State::Ina,
     }
+}
+
+// By two functions, so that the states that are met most need no jump table.
+fn state_of(number: u32, at: u32) -> State
+    ensures { λ r. ⌜ r ≡ stateOf number at ⌝ }
+{
+    if number < 5 {
+        return at_rest(number);
+    }
+    at_work(number, at)
 }
 
 fn tags_by(number: u32, first: u32, last: u32) -> Tags
@@ -79,13 +101,15 @@ pub fn link_of(numbers: [u32; 13]) -> Link
     }
 }
 
-// The mode of the number behind the link's: bit 0 says SPI, bit 1 that CRCs are checked there.
+// The mode of the number behind the link's: bit 0 says SPI, bit 8 that CRCs are checked there. The
+// bits stand where the record's two flags stand in memory, so that the number is taken in and told
+// by one instruction.
 pub fn mode_of(numbers: [u32; 13]) -> Mode
     ensures answer { λ r. ⌜ r ≡ modeOf numbers ⌝ }
 {
     Mode {
         spi: numbers[8] % 2 == 1,
-        checks: numbers[8] / 2 % 2 == 1,
+        checks: numbers[8] / 256 % 2 == 1,
     }
 }
 

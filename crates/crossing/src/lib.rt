@@ -3,10 +3,11 @@
 // the CSD and the password, stand for a record (from_numbers.rt), and any do; a record has its numbers
 // (to_numbers.rt). Eight of them are the link's, one the mode's, two the lock's and two the registers':
 // a part that a call does not change need not be told. Commands change the link and the mode, so
-// these two are told together. Nothing is lost between the two (proofs/Crossing.antt).
+// these two are told together; a damaged frame changes the error bits alone. Nothing is lost between
+// numbers and record (proofs/Crossing.antt).
 //
 // Offers: `card_of`, `link_of`, `mode_of`, `registers_of`, `groups_of`, `locked_of`; `tell_card`,
-// `tell_link`, `tell_link_and_lock`.
+// `tell_errors`, `tell_link`, `tell_link_and_lock`.
 mod from_numbers;
 mod to_numbers;
 
@@ -17,5 +18,6 @@ pub use from_numbers::locked_of;
 pub use from_numbers::mode_of;
 pub use from_numbers::registers_of;
 pub use to_numbers::tell_card;
+pub use to_numbers::tell_errors;
 pub use to_numbers::tell_link;
 pub use to_numbers::tell_link_and_lock;

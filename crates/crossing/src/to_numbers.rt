@@ -7,12 +7,14 @@ use lock::Lock;
 use states::Incoming;
 use states::Outgoing;
 use states::State;
+use status::Errors;
 use tags::Kind;
 use tags::Range;
 ghost use mathlib.Core.List.{_++_};
 ghost use mathlib.Core.Path.{_≡_};
 ghost use Prim.Native.Nat.{_≤_};
-ghost use lib.ListN.{length, take, drop};
+ghost use lib.ListN.{length, take, drop, set};
+ghost use Rattle.card_record.specs.Record.{withErrors};
 ghost use Rattle.crossing.specs.Record.{outgoingNumber, incomingNumber, stateNumber, outgoingAt, incomingAt, placeCarried, startNumber, fullNumber, tagsNumber, lastOf, modeNumber, linkOf, linkNumbers, modeOf, modeNumbers, lockOf, lockNumbers, registerNumbers, cardOf, numbersOf};
 ghost use Rattle.status.specs.Status.{flag};
 ghost use Rattle.tags.specs.Tagging.{firstOf};
@@ -153,7 +155,7 @@ fn flag(is: bool) -> u32
 fn mode_number(mode: Mode) -> u32
     ensures { λ r. ⌜ r ≡ modeNumber mode ⌝ }
 {
-    flag(mode.spi) + 2 * flag(mode.checks)
+    flag(mode.spi) + 256 * flag(mode.checks)
 }
 
 // The link's numbers at the front of others, and those behind as they were.
@@ -173,6 +175,14 @@ fn put_link(link: Link, numbers: &mut [u32])
     numbers[5] = tags_number(range);
     numbers[6] = first_of(range);
     numbers[7] = last_of(range);
+}
+
+// The number of the error bits, among the link's.
+fn put_errors(errors: Errors, numbers: &mut [u32])
+    requires { ⌜ 5 ≤ length (now numbers) ⌝ }
+    ensures { λ _. ⌜ now (numbers .exit) ≡ set (now (numbers .entry)) 4 (errors .bits) ⌝ }
+{
+    numbers[4] = errors.bits;
 }
 
 // The mode's number behind the link's.
@@ -209,6 +219,14 @@ pub fn tell_link(link: Link, mode: Mode, numbers: &mut [u32; 13])
 {
     put_link(link, numbers);
     put_mode(mode, numbers);
+}
+
+// One number, told of the error bits, and the other twelve as they were: the link then has these.
+pub fn tell_errors(errors: Errors, numbers: &mut [u32; 13])
+    ensures numbers { λ _. ⌜ now (numbers .exit) ≡ set (now (numbers .entry)) 4 (errors .bits) ⌝ }
+    ensures crossing { λ _. ⌜ linkOf (now (numbers .exit)) ≡ withErrors (linkOf (now (numbers .entry))) errors ⌝ }
+{
+    put_errors(errors, numbers);
 }
 
 // The first eleven numbers, told of a link, a mode and a lock, and the registers' two as they were.

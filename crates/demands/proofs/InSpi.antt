@@ -3,6 +3,7 @@
 --   three-exactly    it is refused 3 exactly if its CRC7 is wrong and counts: in MMC mode always, in SPI if checking is on or it is CMD0
 --   crc-unread       where it is not, it is judged as its command, whether its CRC7 is right or wrong
 --   line-unnumbered  12, 1, 2 and 3 are given alike with the line low and with it high, in both modes
+--   line-unread-frame   at a card in MMC mode the line is read for an undamaged CMD0 alone: any other frame does the same with it low and high
 --   high-ignored     at a card in SPI a frame with the line high changes nothing and sends nothing, also where it is refused
 -- Assumes nothing.
 use mathlib.Core.Path.{_≡_, refl, sym, ap, _∙_}
@@ -15,7 +16,7 @@ use Rattle.base.proofs.Cases.{cases, clash}
 use Rattle.base.specs.Choice.{pick, unless}
 use Rattle.base.specs.Refusals.{by}
 use Rattle.card.proofs.Outcomes.{told}
-use Rattle.card.specs.Frame.{FrameJudged, frameRefused, commanded, framed, frameJudged, frameStepped, spares, changedBy}
+use Rattle.card.specs.Frame.{FrameJudged, frameRefused, commanded, framed, frameJudged, frameTold, frameStepped, spares, changedBy}
 use Rattle.card.specs.Step.{stepOf}
 use Rattle.card.specs.declared.Call.the-variants.{Frame}
 use Rattle.card_blocks.specs.declared.Outcome.{Outcome}
@@ -25,16 +26,18 @@ use Rattle.card_record.specs.declared.Card.{Card}
 use Rattle.card_record.specs.declared.Mode.{Mode}
 use Rattle.command.specs.Command.{metBy, damagedLink}
 use Rattle.command.specs.declared.Change.{Change}
-use Rattle.spi.proofs.Laws.{spi-high}
+use Rattle.spi.proofs.Laws.{isInactive, line-unread, spi-high}
+use Rattle.spi.specs.Answers.{faulted}
 use Rattle.spi.specs.Hearing.{unheard, heardOf, crcPasses, damagedOf}
 use Rattle.spi.specs.declared.Heard.{Heard}
+use Rattle.status.specs.ErrorBits.{errorBit}
 use Rattle.store.specs.Lent.{Lent, Seen, seen, lendingOf, onceLent}
 use Rattle.store.specs.declared.Lending.{Lending}
 use Rattle.store.specs.declared.Lending.the-variants.{Right, Refused as NotLent}
 use Rattle.wire.specs.Frames.{framingOf}
 use Rattle.wire.specs.declared.Framing.{Framing}
 use Rattle.wire.specs.declared.Framing.the-variants.{Framed, Unframed}
-use Rattle.demands.specs.InSpi.{LetOn, refuses3, Ignored}
+use Rattle.demands.specs.InSpi.{LetOn, refuses3, isReset, LineUnread, Ignored}
 use Rattle.demands.specs.Refused.{Refuses}
 use Rattle.demands.proofs.Frames.{judged-as, judged-stays, stepped-stays}
 
@@ -129,6 +132,37 @@ line-unnumbered card wins frame seen room =
     outcome-told card wins true frame seen
     ∙ lent-alike (lendingOf seen (card .registers .groups)) card wins (framingOf frame)
     ∙ sym (outcome-told card wins false frame seen)
+
+-- in MMC mode
+module _ (card : Card) (here : card .mode .spi ≡ false) where
+  damaged-unread : (selected : Bool) → damagedOf (card .mode) selected (card .link) ≡ unheard (card .mode) (damagedLink (card .link))
+  unfolding damagedOf
+  damaged-unread selected =
+      ap (λ (spi : Bool).
+      pick spi (pick (selected && not (isInactive (card .link))) (faulted (card .mode) (card .link) (errorBit 23)) (unheard (card .mode) (card .link)))
+      (unheard (card .mode) (damagedLink (card .link)))) here
+
+  framed-unread : (wins : Bool) (framing : Framing) → isReset framing ≡ false → framed card wins true framing ≡ framed card wins false framing
+  framed-unread wins (Unframed refusal) e = refl
+  framed-unread wins (Framed index argument true) e = ap (commanded card Done) (line-unread (card .mode) (card .link) (metBy card wins) index argument here e)
+  framed-unread wins (Framed index argument false) e = refused3 true ∙ sym (refused3 false)
+    where
+      refused3 : (selected : Bool) → framed card wins selected (Framed index argument false)
+          ≡ commanded card (Refused (by 3)) (unheard (card .mode) (damagedLink (card .link)))
+      refused3 selected =
+          ap (λ (spi : Bool).
+          unless (spi && (not (card .mode .checks) && not (eqb index 0))) (commanded card (Refused (by 3)) (damagedOf (card .mode) selected (card .link)))
+          (commanded card Done (heardOf (card .mode) selected (card .link) (metBy card wins) index argument))) here
+          ∙ ap (commanded card (Refused (by 3))) (damaged-unread selected)
+
+  pub line-unread-frame : (wins : Bool) (frame : List ℕ) (lent : Lent) (room : ℕ) → isReset (framingOf frame) ≡ false → LineUnread card wins frame lent room
+  unfolding frameStepped frameJudged
+  line-unread-frame wins frame lent room e =
+      let alike = framed-unread wins (framingOf frame) e in
+      record {
+        step = ap (λ (j : FrameJudged). frameTold card (seen lent) (onceLent (lendingOf (seen lent) (card .registers .groups)) (frameRefused card) j)) alike;
+        lent-alike = ap (λ (j : FrameJudged). changedBy card (onceLent (lendingOf (seen lent) (card .registers .groups)) (frameRefused card) j .change) lent) alike;
+      }
 
 module _ (card : Card) (here : card .mode .spi ≡ true) where
   damage-ignored : damagedOf (card .mode) false (card .link) ≡ unheard (card .mode) (card .link)

@@ -29,7 +29,8 @@ use Rattle.store.specs.Lent.{Lent, seen, lendingOf}
 use Rattle.store.specs.declared.Lending.the-variants.{Right}
 use Rattle.tags.specs.Tagging.{noTags}
 use Rattle.wire.specs.Frames.{framingOf}
-use Rattle.wire.specs.declared.Framing.the-variants.{Framed}
+use Rattle.wire.specs.declared.Framing.{Framing}
+use Rattle.wire.specs.declared.Framing.the-variants.{Framed, Unframed}
 use Rattle.demands.specs.Refused.{inactive, noted, cleared, r1From}
 
 -- a frame that 12, 1 and 2 let on: it has an index, an argument, and a CRC7 that is right or wrong
@@ -47,6 +48,16 @@ pub record Ignored (card : Card) (wins : Bool) (frame : List ℕ) (lent : Lent) 
   pub unsent : stepOf card (Frame wins false) frame (seen lent) (length out) .reply .sent ≡ Nothing
   pub lent-kept : lentAfter card (Frame wins false) frame lent ≡ lent
   pub output-kept : outputOf card (Frame wins false) lent out ≡ out
+
+-- an undamaged CMD0
+abbrev pub isReset : Framing → Bool
+isReset (Unframed refusal) = false
+isReset (Framed index argument right) = right && eqb index 0
+
+-- with the line low a frame does what it does with the line high, to the card and to what it is lent
+pub record LineUnread (card : Card) (wins : Bool) (frame : List ℕ) (lent : Lent) (room : ℕ) : Type 0 where
+  pub step : stepOf card (Frame wins true) frame (seen lent) room ≡ stepOf card (Frame wins false) frame (seen lent) room
+  pub lent-alike : lentAfter card (Frame wins true) frame lent ≡ lentAfter card (Frame wins false) frame lent
 
 -- "Illegal commands are answered here": R1 shows bit 22, and clears it with the others that it shows; nothing else changes
 pub record AnswersIllegal (card : Card) (heard : Heard) : Type 0 where

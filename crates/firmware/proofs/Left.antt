@@ -5,12 +5,12 @@
 --   frame-unlent, frame-unframed      a frame: 12; 1 and 2
 --   frame-damaged, frame-heard        3; a command
 -- Assumes nothing.
-use mathlib.Core.Path.{_≡_, refl, sym, ap, subst, _∙_}
+use mathlib.Core.Path.{_≡_, refl, sym, ap, ap₂, subst, _∙_}
 use mathlib.Core.Bool.{Bool, true, false}
 use mathlib.Core.List.{List, _++_}
 use Prim.Native.Nat.{ℕ}
 use lib.Dec.{eqb}
-use lib.ListN.{length, drop}
+use lib.ListN.{length, drop, set}
 use Rattle.base.proofs.Cases.{guarded, clash}
 use Rattle.base.specs.Choice.{unless}
 use Rattle.base.specs.Refusals.{numberOf, by}
@@ -30,8 +30,9 @@ use Rattle.card_record.specs.declared.Card.{Card}
 use Rattle.card_record.specs.declared.Link.{Link}
 use Rattle.card_record.specs.declared.Mode.{Mode}
 use Rattle.crc.specs.Bits.{bits}
+use Rattle.crossing.proofs.Crossing.{errors-told}
 use Rattle.crossing.specs.Record.{groupsOf, linkOf, modeOf, lockOf, registersOf, cardOf, linkNumbers, modeNumbers}
-use Rattle.spi.proofs.Laws.{damage-unchanged}
+use Rattle.spi.proofs.Laws.{damage-unchanged, damage-keeps-mode, damage-errors}
 use Rattle.spi.specs.Hearing.{heardOf, crcPasses, damagedOf}
 use Rattle.spi.specs.declared.Heard.{Heard}
 use Rattle.store.specs.Lent.{Lent, Seen, seen, lentRight, lendingOf, onceLent}
@@ -40,9 +41,9 @@ use Rattle.store.specs.declared.Lending.the-variants.{Right, Refused}
 use Rattle.wire.specs.Frames.{field, fieldsOf, framingOf}
 use Rattle.wire.specs.declared.Framing.{Framing}
 use Rattle.wire.specs.declared.Framing.the-variants.{Framed, Unframed}
-use Rattle.firmware.specs.Answers.{outcomeNumber, metAt, byteSent, leavesRecord, numbersAfter, fronted}
+use Rattle.firmware.specs.Answers.{outcomeNumber, metAt, byteSent, leavesRecord, frameNumbers, fronted}
 use Rattle.firmware.proofs.Sends.{damaged-byte}
-use Rattle.firmware.proofs.Told.{after-left, after-told, linked}
+use Rattle.firmware.proofs.Told.{frame-left, linked}
 
 abbrev Unlent : Refusal → Lending → Type 0
 Unlent refusal lending = lending ≡ Refused refusal → leavesRecord (numberOf refusal) ≡ true
@@ -88,7 +89,7 @@ module _ (numbers cid csd password : List ℕ) where
     abbrev By : Stepped → Lent → ℕ → List ℕ → Lent → List ℕ → List ℕ → ℕ → Type 0
     By stepped left r after now answer told sent =
         (r ≡ outcomeNumber (stepped .reply .outcome))
-        × (((after ≡ numbersAfter r (linkNumbers (stepped .card .link) ++ modeNumbers (stepped .card .mode)) numbers) × (cardOf after cid csd password ≡ stepped .card))
+        × (((after ≡ frameNumbers r (stepped .card) numbers) × (cardOf after cid csd password ≡ stepped .card))
         × ((now ≡ left)
         × ((told ≡ fronted (sentBytes (card .registers) (stepped .reply .sent)) answer) × (sent ≡ length (sentBytes (card .registers) (stepped .reply .sent))))))
 
@@ -109,7 +110,7 @@ module _ (numbers cid csd password : List ℕ) where
     refused-by : (refusal : Refusal) (r : ℕ) (answer : List ℕ) → leavesRecord (numberOf refusal) ≡ true → r ≡ numberOf refusal
         → Judged (frameRefused card refusal) r numbers lent answer answer 0
     unfolding sentBytes
-    refused-by refusal r answer leaves e = (e, ((after-left r (linkNumbers (card .link) ++ modeNumbers (card .mode)) numbers (ap leavesRecord e ∙ leaves), refl), (refl, (refl, refl))))
+    refused-by refusal r answer leaves e = (e, ((frame-left r card numbers (ap leavesRecord e ∙ leaves), refl), (refl, (refl, refl))))
 
     pub frame-unlent : (refusal : Refusal) (r : ℕ) (answer : List ℕ) → lendingOf (seen lent) (card .registers .groups) ≡ Refused refusal
         → r ≡ numberOf refusal → Left r numbers lent answer answer 0
@@ -140,13 +141,13 @@ module _ (numbers cid csd password : List ℕ) where
 
     pub frame-damaged : (index argument : ℕ) (right : Bool) (r : ℕ) (answer told after : List ℕ) (sent : ℕ)
         → lendingOf (seen lent) (card .registers .groups) ≡ Right → framingOf frame ≡ Framed index argument right
-        → crcPasses (modeOf numbers) index right ≡ false → r ≡ 3 → after ≡ linkNumbers (damaged .link) ++ modeNumbers (damaged .mode) ++ drop 9 numbers
-        → (linkOf after ≡ damaged .link) × (modeOf after ≡ damaged .mode) → told ≡ fronted (byteSent (damaged .sent)) answer
-        → sent ≡ length (byteSent (damaged .sent)) → Left r after lent answer told sent
+        → crcPasses (modeOf numbers) index right ≡ false → r ≡ 3 → after ≡ set numbers 4 (damaged .link .errors .bits)
+        → linkOf after ≡ damaged .link → told ≡ fronted (byteSent (damaged .sent)) answer → sent ≡ length (byteSent (damaged .sent)) → Left r after lent answer told sent
     unfolding cardOf
     frame-damaged index argument right r answer told after sent e f wrong n is stands bytes count =
-        let each = linked numbers cid csd password (damaged .link) (damaged .mode) after is stands in
         let one = sym (damaged-byte (registersOf numbers cid csd) (modeOf numbers) selected (linkOf numbers)) in
+        let next = withMode (withLink card (damaged .link)) (damaged .mode) in
+        let shows = damage-errors (modeOf numbers) selected (linkOf numbers) in
         subst (λ (j : FrameJudged). Judged j r after lent answer told sent) (judged-crc index argument right false e f wrong)
         (subst
         (λ (c : Change).
@@ -154,7 +155,13 @@ module _ (numbers cid csd password : List ℕ) where
         (sym (damage-unchanged (modeOf numbers) selected (linkOf numbers))) (
           n,
           (
-            (each .0 ∙ after-told r (linkNumbers (damaged .link) ++ modeNumbers (damaged .mode)) numbers (ap leavesRecord n), each .1),
+            (
+              is ∙ ap (λ (k : ℕ). frameNumbers k next numbers) (sym n),
+              ap (λ (l : List ℕ). cardOf l cid csd password) is
+                  ∙ errors-told numbers (damaged .link .errors) cid csd password (sym (ap linkOf is) ∙ stands ∙ shows)
+                  ∙ ap₂ (λ (l : Link) (m : Mode). withMode (withLink card l) m) (sym shows)
+                  (sym (damage-keeps-mode (modeOf numbers) selected (linkOf numbers))),
+            ),
             (refl, (bytes ∙ ap (λ (l : List ℕ). fronted l answer) one, count ∙ ap length one)),
           ),
         ))

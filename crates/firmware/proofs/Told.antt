@@ -1,6 +1,7 @@
 -- The thirteen numbers after a call that tells some of them.
 --   link-front, lock-front    those of the link and the mode, or of these and the lock, at the front and the others as they were
 --   after-left, after-told    where the call's number leaves the record, and where it does not
+--   frame-left                the same of a frame
 --   linked, registers-kept    numbers of which the link's and the mode's are told stand for the card with these, and so for the same registers
 --   powered                   power-on tells those of the link, the mode and the lock
 --   works, rests-told         work done alters the state's in prg and dis, and leaves it in every other state
@@ -21,7 +22,7 @@ use Rattle.card_record.specs.declared.Mode.{Mode}
 use Rattle.crossing.proofs.Crossing.{nine, eleven, link-told, link-and-lock-told}
 use Rattle.crossing.specs.Record.{linkOf, modeOf, lockOf, registersOf, cardOf, linkNumbers, modeNumbers, lockNumbers}
 use Rattle.lock.specs.declared.Lock.{Lock}
-use Rattle.firmware.specs.Answers.{leavesRecord, numbersAfter, fronted, workedNumber}
+use Rattle.firmware.specs.Answers.{leavesRecord, numbersAfter, frameNumbers, fronted, workedNumber}
 use Rattle.firmware.proofs.Kept.{powered-password, powered-parts, worked-told}
 
 -- the registers that numbers stand for are the same where the link's and the mode's are told
@@ -46,6 +47,11 @@ after-left number told before leaves = sym (ap (λ (b : Bool). pick b before (fr
 
 pub after-told : (number : ℕ) (told before : List ℕ) → leavesRecord number ≡ false → fronted told before ≡ numbersAfter number told before
 after-told number told before leaves = sym (ap (λ (b : Bool). pick b before (fronted told before)) leaves)
+
+pub frame-left : (number : ℕ) (next : Card) (before : List ℕ) → leavesRecord number ≡ true → before ≡ frameNumbers number next before
+frame-left number next before leaves =
+    sym (ap (λ (b : Bool).
+    pick b before (pick (eqb number 3) (set before 4 (next .link .errors .bits)) (fronted (linkNumbers (next .link) ++ modeNumbers (next .mode)) before))) leaves)
 
 module _ (numbers cid csd password : List ℕ) where
   abbrev card : Card

@@ -21,6 +21,7 @@
 --   lost-by-0              one that was lost read as won
 --   refused-rewritten      numbers of no record rewritten by a call that is refused and changes nothing
 --   damage-not-told        the numbers left as they were by a damaged frame, which sets bit 23
+--   damage-rewritten       another number told anew by a damaged frame
 --   lock-rewritten         a flag of 2 rewritten by a frame, which changes no lock
 --   power-keeps-spi        power-on that leaves the number of SPI
 --   low-by-256             a select line that is low read as high, by the low bits of what C says
@@ -50,6 +51,7 @@ use Rattle.crossing.specs.Record.{stateOf, linkOf, modeOf, lockOf, registersOf,
 use Rattle.lock.specs.Passwords.{stored, same, holding}
 use Rattle.lock.specs.Requests.{passwordIn, oldOf, newOf, settable, requestOf}
 use Rattle.card_record.specs.Power.{freshLink, mmcMode, poweredOn}
+use Rattle.card_record.specs.Record.{withLink}
 use Rattle.card_record.specs.declared.Card.{Card}
 use Rattle.spi.specs.Answers.{answeredIn, faulted}
 use Rattle.spi.specs.Hearing.{takenIn, spiHeard, heardOf, damagedOf}
@@ -60,7 +62,7 @@ use Rattle.store.specs.Map.{entriesRight}
 use Rattle.wire.specs.Blocks.{blockOf}
 use Rattle.wire.specs.declared.Checked.the-variants.{Refused as NotChecked}
 use Rattle.wire.specs.declared.Frame.the-variants.{Command, Refused}
-use Rattle.firmware.specs.Answers.{outcomeNumber, metAt, byteSent, fronted, numbersAfter, workedNumber, wonBy, selectedBy, wroteOf}
+use Rattle.firmware.specs.Answers.{outcomeNumber, metAt, byteSent, fronted, numbersAfter, frameNumbers, workedNumber, wonBy, selectedBy, wroteOf}
 use Rattle.firmware.specs.Numbers.{writtenNumber, checkedNumber, indexRead, argumentRead}
 
 index-not-told : indexRead (Command 17 0x12345) 0 ≡ 0 → ⊥
@@ -155,11 +157,16 @@ lost-by-0 e = never e
 refused-rewritten : getD (numbersAfter 15 (linkNumbers (card 4 .link) ++ modeNumbers (card 4 .mode)) (numbered 4 99)) 1 0 ≡ 0 → ⊥
 refused-rewritten e = omega arith
 
-damage-not-told : getD (numbersAfter 3 (linkNumbers (damagedLink (card 4 .link)) ++ modeNumbers mmcMode) (numbered 4 0)) 4 0 ≡ 0 → ⊥
+damage-not-told : getD (frameNumbers 3 (withLink (card 4) (damagedLink (card 4 .link))) (numbered 4 0)) 4 0 ≡ 0 → ⊥
 unfolding linkNumbers damagedLink cardOf linkOf stateOf
 damage-not-told e = omega arith
 
-lock-rewritten : getD (numbersAfter 0 (linkNumbers freshLink ++ modeNumbers mmcMode) (replicate 13 2)) 9 0 ≡ 1 → ⊥
+-- a place of 99 stands for nothing in tran, and a damaged frame lets it stay
+damage-rewritten : getD (frameNumbers 3 (withLink (card 4) (damagedLink (card 4 .link))) (numbered 4 99)) 1 0 ≡ 0 → ⊥
+unfolding linkNumbers damagedLink cardOf linkOf stateOf
+damage-rewritten e = omega arith
+
+lock-rewritten : getD (frameNumbers 0 (withLink (card 4) freshLink) (replicate 13 2)) 9 0 ≡ 1 → ⊥
 unfolding linkNumbers modeNumbers freshLink
 lock-rewritten e = omega arith
 

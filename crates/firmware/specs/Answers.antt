@@ -4,17 +4,18 @@ use mathlib.Core.Bool.{Bool, not}
 use mathlib.Core.List.{List, [], _∷_, _++_}
 use Prim.Native.Nat.{ℕ}
 use lib.Dec.{eqb}
-use lib.ListN.{length, drop, getD}
+use lib.ListN.{length, drop, getD, set}
 use Rattle.base.specs.Choice.{pick}
 use Rattle.base.specs.Refusals.{numberOf}
 use Rattle.card_blocks.specs.declared.Outcome.{Outcome}
 use Rattle.card_blocks.specs.declared.Outcome.the-variants.{Done, Wrote, Refused}
+use Rattle.card_record.specs.declared.Card.{Card}
 use Rattle.card_record.specs.declared.Making.{Making}
 use Rattle.card_record.specs.declared.Making.the-variants.{Done as Made, Refused as NotMade}
 use Rattle.card_record.specs.declared.Sent.{Sent}
 use Rattle.card_record.specs.declared.Sent.the-variants.{Nothing, Status, Cid, Csd, Ocr, SpiR1, SpiR2, SpiR3, DataResponse}
 use Rattle.command.specs.declared.Met.{Met}
-use Rattle.crossing.specs.Record.{groupsOf, lockedOf}
+use Rattle.crossing.specs.Record.{groupsOf, lockedOf, linkNumbers, modeNumbers}
 use Rattle.moves.specs.Indices.{among}
 
 -- 0 for a call that was carried out, else the number of its refusal
@@ -49,6 +50,13 @@ leavesRecord number = among number (1 ∷ 2 ∷ 6 ∷ 12 ∷ 15 ∷ [])
 -- the record was left
 abbrev pub numbersAfter : ℕ → List ℕ → List ℕ → List ℕ
 numbersAfter number told before = pick (leavesRecord number) before (fronted told before)
+
+-- the same after a frame: "3 sets bit 23 of the card", so that of a damaged frame the number of the error bits alone is told, in its place; else
+-- those of the link and the mode
+abbrev pub frameNumbers : ℕ → Card → List ℕ → List ℕ
+frameNumbers number next before =
+    pick (leavesRecord number) before
+    (pick (eqb number 3) (set before 4 (next .link .errors .bits)) (fronted (linkNumbers (next .link) ++ modeNumbers (next .mode)) before))
 
 -- the state's number when work is done: "prg to tran and dis to stby, and .. no other"
 abbrev pub workedNumber : ℕ → ℕ

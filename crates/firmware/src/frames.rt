@@ -1,5 +1,6 @@
 // A frame at a card, for C. What is lent and the framing are judged on the numbers as they are, and of
-// the record only the link and the mode then cross: no frame changes the lock or the registers.
+// the record only the link and the mode then cross: no frame changes the lock or the registers, and a
+// damaged one nothing but the error bits.
 use crate::answers::send_byte;
 use base::Refusal;
 use base::Written;
@@ -11,13 +12,14 @@ use crossing::link_of;
 use crossing::locked_of;
 use crossing::mode_of;
 use crossing::registers_of;
+use crossing::tell_errors;
 use crossing::tell_link;
 use store::Lending;
 use wire::Framing;
 ghost use mathlib.Core.List.{_++_};
 ghost use mathlib.Core.Path.{_≡_};
 ghost use Prim.Native.Nat.{_≤_};
-ghost use lib.ListN.{length, drop};
+ghost use lib.ListN.{length, drop, set};
 ghost use Rattle.card.specs.Frame.{changed, frameStepped, commandHeard};
 ghost use Rattle.card.specs.Step.{lentAfter};
 ghost use Rattle.card.specs.declared.Call.the-variants.{Frame};
@@ -26,7 +28,7 @@ ghost use Rattle.card_record.specs.Sending.{sentBytes, Sendable};
 ghost use Rattle.crossing.specs.Record.{cardOf, linkOf, linkNumbers, modeOf, modeNumbers, registersOf};
 ghost use Rattle.spi.specs.Hearing.{heardOf, damagedOf};
 ghost use Rattle.store.specs.Lent.{lentOf, seen};
-ghost use Rattle.firmware.specs.Answers.{outcomeNumber, metAt, byteSent, numbersAfter, wonBy, selectedBy, fronted};
+ghost use Rattle.firmware.specs.Answers.{outcomeNumber, metAt, byteSent, frameNumbers, wonBy, selectedBy, fronted};
 
 // What a command meets beside the link, at the card that the numbers stand for.
 fn met_of(numbers: [u32; 13], wins: bool) -> Met
@@ -40,23 +42,22 @@ fn met_of(numbers: [u32; 13], wins: bool) -> Met
     }
 }
 
-// A damaged frame at the card: the numbers of the link and the mode that it leaves, and what is sent
-// at the front of `answer`. The answer is how many bytes that is.
+// A damaged frame at the card: the number of the error bits that it leaves, told in its place, and what
+// is sent at the front of `answer`. The answer is how many bytes that is.
 fn tell_damaged(numbers: &mut [u32; 13], selected: bool, answer: &mut [u8; 17]) -> usize
     ensures left { λ r.
         let damaged = damagedOf (modeOf (now (numbers .entry))) selected (linkOf (now (numbers .entry))) in
         ⌜ r ≡ length (byteSent (damaged .sent)) ⌝
-        ∗ ⌜ (now (numbers .exit) ≡ linkNumbers (damaged .link) ++ modeNumbers (damaged .mode) ++ drop 9 (now (numbers .entry)))
-        × ((linkOf (now (numbers .exit)) ≡ damaged .link) × (modeOf (now (numbers .exit)) ≡ damaged .mode)) ⌝
+        ∗ ⌜ (now (numbers .exit) ≡ set (now (numbers .entry)) 4 (damaged .link .errors .bits)) × (linkOf (now (numbers .exit)) ≡ damaged .link) ⌝
         ∗ ⌜ now (answer .exit) ≡ fronted (byteSent (damaged .sent)) (now (answer .entry)) ⌝ }
 {
     let mode = mode_of(*numbers);
     let link = link_of(*numbers);
     let damaged = spi::damaged(mode, selected, link);
     let next = damaged.link;
-    let after = damaged.mode;
+    let errors = next.errors;
     let sent = damaged.sent;
-    tell_link(next, after, numbers);
+    tell_errors(errors, numbers);
     send_byte(sent, answer)
 }
 
@@ -150,7 +151,7 @@ pub extern "C" fn mmc_parts_frame(
         let stepped = frameStepped card (wonBy won) (selectedBy selected) (now (frame .entry)) (seen lent) in
         let bytes = sentBytes (card .registers) (stepped .reply .sent) in
         ⌜ r ≡ outcomeNumber (stepped .reply .outcome) ⌝
-        ∗ ⌜ (now (numbers .exit) ≡ numbersAfter r (linkNumbers (stepped .card .link) ++ modeNumbers (stepped .card .mode)) (now (numbers .entry)))
+        ∗ ⌜ (now (numbers .exit) ≡ frameNumbers r (stepped .card) (now (numbers .entry)))
         × (cardOf (now (numbers .exit)) (now (cid .entry)) (now (csd .entry)) (now (password .entry)) ≡ stepped .card) ⌝
         ∗ ⌜ lentOf (now (memory .exit)) (now (map .exit)) ≡ lentAfter card (Frame (wonBy won) (selectedBy selected)) (now (frame .entry)) lent ⌝
         ∗ ⌜ (now (answer .exit) ≡ fronted bytes (now (answer .entry))) × (now (sent .exit) ≡ length bytes) ⌝ }

@@ -1,8 +1,8 @@
 -- Two CIDs compared, and what follows for the smallest.
 --   order-..   the three answers of a comparison
 --   by-order   the three cases of one
---   lower-first, lower-by    the smaller of what was found and one more, as code tells the cases apart
---   low-none, low-by         the question, in the same way
+--   lower-none, lower-by     whether one more is smaller than what was found, as code tells the cases apart
+--   low-none, low-by         whether it is what was found, in the same way
 -- Assumes nothing.
 use mathlib.Core.Path.{_≡_, sym, _∙_}
 use mathlib.Core.Bool.{true, false, not}
@@ -12,7 +12,7 @@ use native.Mathlib.Omega.{arith}
 use borrow.Author.Tests.{ltb-true, ltb-false, eqb-true, eqb-false, eq-eqb, ne-eqb, lt-ltb, le-ltb, not-true, not-false}
 use lib.Dec.{eqb, ltb}
 use Rattle.base.proofs.Cases.{cases}
-use Rattle.shared_line.specs.Lowest.{cidNumber, orderOf, byOrder, lowBy, lowerOf, isLow}
+use Rattle.shared_line.specs.Lowest.{cidNumber, orderOf, byOrder, isLower, isLow}
 use Rattle.shared_line.specs.declared.Low.{Low}
 use Rattle.shared_line.specs.declared.Order.{Order}
 use Rattle.shared_line.specs.declared.Order.the-variants.{Smaller, Same, Larger}
@@ -49,13 +49,13 @@ by-order a b smaller same larger =
 
 -- ---- the smallest
 module _ (low : Low) (cid : List ℕ) where
-  pub lower-first : not (low .any) ≡ true → lowBy cid ≡ lowerOf low cid
-  unfolding lowerOf
-  lower-first a = let any = not-true (low .any) a in rw any
+  pub lower-none : not (low .any) ≡ true → true ≡ isLower low cid
+  unfolding isLower
+  lower-none a = let any = not-true (low .any) a in rw any
 
   pub lower-by : not (low .any) ≡ false → (order is : Order) → order ≡ orderOf cid (low .cid) → order ≡ is
-      → byOrder is (lowBy cid) low low ≡ lowerOf low cid
-  unfolding lowerOf
+      → byOrder is true false false ≡ isLower low cid
+  unfolding isLower
   lower-by a order is o e = let any = not-false (low .any) a in let by = sym o ∙ e in rw (any, by)
 
   pub low-none : not (low .any) ≡ true → false ≡ isLow low cid

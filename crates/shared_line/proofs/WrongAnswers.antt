@@ -14,14 +14,14 @@ use native.Mathlib.Omega.{arith}
 use lib.ListN.{length, getD, replicate}
 use Rattle.base.proofs.Cases.{never}
 use Rattle.shared_line.specs.Bytes.{anded}
-use Rattle.shared_line.specs.Lowest.{noLow, lowerOf, isLow}
+use Rattle.shared_line.specs.Lowest.{noLow, isLower, isLow}
 
 nobody-sent : noLow .any ≡ true → ⊥
 unfolding noLow
 nobody-sent e = never e
 
-first-dropped : lowerOf noLow (replicate 16 0xFF) .any ≡ false → ⊥
-unfolding noLow lowerOf
+first-dropped : isLower noLow (replicate 16 0xFF) ≡ false → ⊥
+unfolding noLow isLower
 first-dropped e = never (sym e)
 
 nobody-low : isLow noLow (replicate 16 0) ≡ true → ⊥

@@ -31,9 +31,13 @@ noLow = record { any = false; cid = replicate 16 0 }
 abbrev pub lowBy : List ℕ → Low
 lowBy cid = record { any = true; cid = cid }
 
+-- whether a CID is smaller than the one that was found, as any is where none was
+unfoldable pub isLower : Low → List ℕ → Bool
+isLower low cid = unless (low .any) true (byOrder (orderOf cid (low .cid)) true false false)
+
 -- what was found, or one more CID where nothing smaller was found
 unfoldable pub lowerOf : Low → List ℕ → Low
-lowerOf low cid = unless (low .any) (lowBy cid) (byOrder (orderOf cid (low .cid)) (lowBy cid) low low)
+lowerOf low cid = pick (isLower low cid) (lowBy cid) low
 
 -- whether a CID is the one that was found
 unfoldable pub isLow : Low → List ℕ → Bool

@@ -2,11 +2,11 @@
 // heard, in specs/Line.antt. The code works on bytes: the smallest CID that was sent, and frames
 // ANDed. No call has a `requires`.
 //
-// Offers: `Low`, `nobody`, `lower`, `is_low`; `and`.
+// Offers: `Low`, `nobody`, `is_lower`, `is_low`; `and`.
 use base::least;
 ghost use mathlib.Core.Path.{_≡_};
 ghost use Rattle.shared_line.specs.Bytes.{anded};
-ghost use Rattle.shared_line.specs.Lowest.{orderOf, noLow, lowerOf, isLow};
+ghost use Rattle.shared_line.specs.Lowest.{orderOf, noLow, isLower, isLow};
 
 // The smallest CID among those that were sent, if any was.
 pub struct Low {
@@ -48,19 +48,19 @@ pub fn nobody() -> Low
     }
 }
 
-// The smaller of what was found and one more CID.
-pub fn lower(low: Low, cid: [u8; 16]) -> Low
-    ensures answer { λ r. ⌜ r ≡ lowerOf low cid ⌝ }
+// Whether a CID is smaller than the one that was found, as any is where none was.
+pub fn is_lower(low: Low, cid: [u8; 16]) -> bool
+    ensures answer { λ r. ⌜ r ≡ isLower low cid ⌝ }
 {
     if !low.any {
-        return Low { any: true, cid };
+        return true;
     }
-    let least = low.cid;
-    let order = compare(cid, least);
+    let found = low.cid;
+    let order = compare(cid, found);
     match order {
-        Order::Smaller => Low { any: true, cid },
-        Order::Same => low,
-        Order::Larger => low,
+        Order::Smaller => true,
+        Order::Same => false,
+        Order::Larger => false,
     }
 }
 

@@ -7,7 +7,7 @@
 --   enters         a card that is not in SPI is so after a command exactly if that was CMD0 with its line low, and it is not Inactive
 --   reset, reset-inactive   CMD0 with the line low, wherever it is not Inactive: as after power-on but for the lock flag, in SPI, checking off, answer 01
 --   one-act        where SPI and MMC mode both lead a command to a state, both leave the same link, but for its error bits, and the same change
---   damage-unchanged, damage-keeps-mode   a frame refused 3 changes nothing in what is lent, and no mode
+--   damage-unchanged, damage-keeps-mode, damage-errors   a frame refused 3 changes nothing in what is lent, no mode, and of the link its error bits alone
 --   damage-answered, damage-unanswered   a frame refused 3 is answered, by R1 with bit 23, exactly if the card is in SPI, selected and not Inactive
 -- Assumes nothing.
 use mathlib.Core.Path.{_≡_, refl, sym, ap, ap₂, _∙_, subst}
@@ -196,6 +196,13 @@ unfolding damagedOf faulted answeredIn
 damage-keeps-mode mode selected link =
     picked (λ (h : Heard). h .mode ≡ mode) (mode .spi)
     (λ here. picked (λ (h : Heard). h .mode ≡ mode) (selected && not (isInactive link)) (λ low. refl) (λ low. refl)) (λ here. refl)
+
+pub damage-errors : (mode : Mode) (selected : Bool) (link : Link) → damagedOf mode selected link .link ≡ withErrors link (damagedOf mode selected link .link .errors)
+unfolding damagedOf faulted answeredIn damagedLink
+damage-errors mode selected link =
+    picked (λ (h : Heard). h .link ≡ withErrors link (h .link .errors)) (mode .spi)
+    (λ here. picked (λ (h : Heard). h .link ≡ withErrors link (h .link .errors)) (selected && not (isInactive link)) (λ low. refl) (λ low. refl))
+    (λ here. picked (λ (l : Link). l ≡ withErrors link (l .errors)) (isInactive link) (λ inactive. refl) (λ active. refl))
 
 pub damage-answered : (mode : Mode) (link : Link) → mode .spi ≡ true → isInactive link ≡ false → damagedOf mode true link ≡ faulted mode link (errorBit 23)
 unfolding damagedOf

@@ -1,24 +1,33 @@
 // How a card takes a command whichever way it is spoken to (document 02, request 1): by the MMC mode of
 // document 01, or by SPI, which a card enters when CMD0 comes with its select line low and leaves by
 // power-on only. What a taken command does is `command::act` in both; which commands are taken in SPI,
-// what they answer and which error bits an answer clears stands here. No call has a `requires`.
+// what they answer and which error bits an answer clears stands here. A command is decided, done and
+// answered in one line of calls for both modes: code that calls `act` twice makes the compiler keep it
+// apart, and every command then pays for handing its record over. No call has a `requires`.
 //
 // Offers: `Heard`, `hear`; `crc_passes`, `damaged`.
+mod replies;
+
 use card_record::Link;
 use card_record::Mode;
 use card_record::Sent;
-use command::Acted;
 use command::Change;
-use command::Commanded;
 use command::Met;
 use moves::Move;
+use replies::in_mmc;
+use replies::in_spi;
+use replies::is_idle;
+use replies::left_by;
+use replies::pending;
+use replies::response_of;
+use replies::sent_by;
+use replies::shown;
 use states::Column;
-use states::State;
 use status::ErrorBit;
 use status::Errors;
 ghost use mathlib.Core.Path.{_≡_};
-ghost use Rattle.spi.specs.Answers.{responseOf, idleIn, sentIn, leftIn, answeredIn, faulted};
-ghost use Rattle.spi.specs.Hearing.{unheard, heardInMmc, modeAfter, takenIn, spiHeard, asSpi, heardOf, crcPasses, damagedOf};
+ghost use Rattle.spi.specs.Answering.{modeBy, decisionOf, takenBy, untaken};
+ghost use Rattle.spi.specs.Hearing.{unheard, modeAfter, asSpi, heardOf, crcPasses, damagedOf};
 
 // What a command leaves: the mode, the link, what is sent, and what is to change in what is lent.
 pub struct Heard {
@@ -35,82 +44,22 @@ pub enum Response {
     R3,
 }
 
-fn response_of(index: u8) -> Response
-    ensures { λ r. ⌜ r ≡ responseOf index ⌝ }
-{
-    if index == 13 {
-        return Response::R2;
-    }
-    if index == 58 {
-        return Response::R3;
-    }
-    Response::R1
+// How a command is answered, in one list for both modes: the answer is chosen with the move, and what
+// the command does stands between the two once, whichever mode it came in.
+pub enum Answering {
+    Nothing,
+    R1,
+    R2,
+    R3,
+    SpiR1,
+    SpiR2,
+    SpiR3,
 }
 
-fn is_idle(state: State) -> bool
-    ensures { λ r. ⌜ r ≡ idleIn state ⌝ }
-{
-    let on = states::column_of(state);
-    states::number(on) == 0
-}
-
-// An answer of these error bits, by a card that is idle after the command, or is not, and locked or not.
-fn send(response: Response, errors: Errors, idle: bool, locked: bool) -> Sent
-    ensures { λ r. ⌜ r ≡ sentIn response errors idle locked ⌝ }
-{
-    let first = spi_answers::r1(errors, idle);
-    match response {
-        Response::R1 => Sent::SpiR1(first),
-        Response::R2 => Sent::SpiR2 {
-            first,
-            second: spi_answers::r2_second(errors, locked),
-        },
-        Response::R3 => Sent::SpiR3(first),
-    }
-}
-
-// The error bits that an answer leaves pending: it clears those that it shows.
-fn left(response: Response, errors: Errors) -> Errors
-    ensures { λ r. ⌜ r ≡ leftIn response errors ⌝ }
-{
-    match response {
-        Response::R1 => spi_answers::cleared_r1(errors),
-        Response::R2 => spi_answers::cleared_r2(errors),
-        Response::R3 => spi_answers::cleared_r1(errors),
-    }
-}
-
-// What a taken command answers, and what it leaves.
-fn answer(mode: Mode, acted: Acted, response: Response, locked: bool) -> Heard
-    ensures { λ r. ⌜ r ≡ answeredIn mode acted response locked ⌝ }
-{
-    let errors = acted.errors;
-    let link = acted.link;
-    let change = acted.change;
-    let state = link.state;
-    let idle = is_idle(state);
-    Heard {
-        mode,
-        link: Link {
-            errors: left(response, errors),
-            ..link
-        },
-        sent: send(response, errors, idle, locked),
-        change,
-    }
-}
-
-// A command that was not taken, answered with an error bit.
-fn fault(mode: Mode, link: Link, bit: ErrorBit) -> Heard
-    ensures { λ r. ⌜ r ≡ faulted mode link bit ⌝ }
-{
-    let errors = status::set(link.errors, bit);
-    let acted = Acted {
-        link,
-        errors,
-        change: Change::Nothing,
-    };
-    answer(mode, acted, Response::R1, false)
+// How a command is answered if it is taken, and where the table of the card's mode leads it.
+pub struct Decision {
+    pub answering: Answering,
+    pub next: Move,
 }
 
 // A frame that the card does not hear.
@@ -125,17 +74,20 @@ fn unheard(mode: Mode, link: Link) -> Heard
     }
 }
 
-fn in_mmc(mode: Mode, given: Commanded) -> Heard
-    ensures { λ r. ⌜ r ≡ heardInMmc mode given ⌝ }
+// A command that was not taken, and leaves these error bits: in SPI it is answered, by R1.
+fn untaken(mode: Mode, link: Link, errors: Errors, answered: bool) -> Heard
+    ensures { λ r. ⌜ r ≡ untaken mode link errors answered ⌝ }
 {
-    let link = given.link;
-    let sent = given.sent;
-    let change = given.change;
+    let state = link.state;
+    let idle = is_idle(state);
     Heard {
         mode,
-        link,
-        sent,
-        change,
+        link: Link {
+            errors: pending(errors, answered),
+            ..link
+        },
+        sent: shown(errors, idle, answered),
+        change: Change::Nothing,
     }
 }
 
@@ -158,27 +110,19 @@ fn mode_after(mode: Mode, index: u8, argument: u32) -> Mode
     mode
 }
 
-// A command that has a legal move to a column.
-fn take(mode: Mode, link: Link, met: Met, index: u8, argument: u32, column: Column) -> Heard
-    ensures { λ r. ⌜ r ≡ takenIn mode link met index argument column ⌝ }
+// A command that is taken as SPI has it may change the mode; CMD13 and CMD58, which R2 and R3 answer,
+// do not.
+fn mode_by(answering: Answering, mode: Mode, index: u8, argument: u32) -> Mode
+    ensures { λ r. ⌜ r ≡ modeBy answering mode index argument ⌝ }
 {
-    let acted = command::act(link, met, index, argument, column);
-    let next = mode_after(mode, index, argument);
-    answer(next, acted, response_of(index), met.locked)
-}
-
-// A command at a card that takes it as SPI has it.
-fn in_spi(mode: Mode, link: Link, met: Met, index: u8, argument: u32) -> Heard
-    ensures { λ r. ⌜ r ≡ spiHeard mode link met index argument ⌝ }
-{
-    let state = link.state;
-    let row = spi_moves::row_of(index);
-    let next = spi_moves::next(row, states::column_of(state));
-    match next {
-        Move::Ignored => unheard(mode, link),
-        Move::Silent => unheard(mode, link),
-        Move::Illegal => fault(mode, link, ErrorBit::IllegalCommand),
-        Move::To(column) => take(mode, link, met, index, argument, column),
+    match answering {
+        Answering::Nothing => mode,
+        Answering::R1 => mode,
+        Answering::R2 => mode,
+        Answering::R3 => mode,
+        Answering::SpiR1 => mode_after(mode, index, argument),
+        Answering::SpiR2 => mode,
+        Answering::SpiR3 => mode,
     }
 }
 
@@ -195,17 +139,87 @@ fn as_spi(mode: Mode, selected: bool, index: u8) -> bool
     index == 0
 }
 
-// A command at a card whose select line is low (`selected`) or high.
+// What a command finds at a card whose select line is low (`selected`) or high, before anything is
+// done.
+fn decide(mode: Mode, selected: bool, link: Link, met: Met, index: u8, argument: u32) -> Decision
+    ensures { λ r. ⌜ r ≡ decisionOf mode selected link met index argument ⌝ }
+{
+    if as_spi(mode, selected, index) {
+        let state = link.state;
+        let row = spi_moves::row_of(index);
+        return Decision {
+            answering: in_spi(response_of(index)),
+            next: spi_moves::next(row, states::column_of(state)),
+        };
+    }
+    if mode.spi {
+        return Decision {
+            answering: Answering::Nothing,
+            next: Move::Ignored,
+        };
+    }
+    let decided = command::decide(link, met, index, argument);
+    let row = decided.row;
+    let next = decided.next;
+    Decision {
+        answering: in_mmc(command::response_of(row)),
+        next,
+    }
+}
+
+// A command that has a legal move to a column.
+fn take(
+    mode: Mode,
+    link: Link,
+    met: Met,
+    index: u8,
+    argument: u32,
+    answering: Answering,
+    column: Column,
+) -> Heard
+    ensures { λ r. ⌜ r ≡ takenBy mode link met index argument answering column ⌝ }
+{
+    let acted = command::act(link, met, index, argument, column);
+    let errors = acted.errors;
+    let after = acted.link;
+    let change = acted.change;
+    let from = link.state;
+    let to = after.state;
+    Heard {
+        mode: mode_by(answering, mode, index, argument),
+        link: Link {
+            errors: left_by(answering, errors),
+            ..after
+        },
+        sent: sent_by(
+            answering,
+            index,
+            errors,
+            met.locked,
+            states::column_of(from),
+            is_idle(to),
+        ),
+        change,
+    }
+}
+
+// A command at a card, as it was decided.
 pub fn hear(mode: Mode, selected: bool, link: Link, met: Met, index: u8, argument: u32) -> Heard
     ensures answer { λ r. ⌜ r ≡ heardOf mode selected link met index argument ⌝ }
 {
-    if as_spi(mode, selected, index) {
-        return in_spi(mode, link, met, index, argument);
+    let decided = decide(mode, selected, link, met, index, argument);
+    let answering = decided.answering;
+    let next = decided.next;
+    match next {
+        Move::Ignored => unheard(mode, link),
+        Move::Silent => unheard(mode, link),
+        Move::Illegal => {
+            let spi = as_spi(mode, selected, index);
+            let errors = status::set(link.errors, ErrorBit::IllegalCommand);
+            untaken(mode, link, errors, spi)
+        }
+        Move::To(column) => take(mode, link, met, index, argument, answering, column),
     }
-    if mode.spi {
-        return unheard(mode, link);
-    }
-    in_mmc(mode, command::command(link, met, index, argument))
 }
 
 // What a frame that is refused 3 leaves: in SPI an R1 is sent beside the number.
@@ -224,7 +238,8 @@ pub fn damaged(mode: Mode, selected: bool, link: Link) -> Heard
     if states::number(on) == 9 {
         return unheard(mode, link);
     }
-    fault(mode, link, ErrorBit::ComCrcError)
+    let errors = status::set(link.errors, ErrorBit::ComCrcError);
+    untaken(mode, link, errors, true)
 }
 
 // Whether a command goes on whose CRC7 is right, or wrong: in SPI CMD0 is always checked, and others

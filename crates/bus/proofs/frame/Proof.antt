@@ -7,13 +7,17 @@ use mathlib.Core.Path.{_≡_, refl, sym, ap, _∙_, subst}
 use Prim.Native.Nat.{ℕ, _≤_, _-_}
 use native.Mathlib.Omega.{arith}
 use borrow.Author.Needs.{needs}
-use borrow.Author.Tests.{not-false}
+use borrow.Author.Tests.{not-true, not-false}
 use denote.Ref.{now}
 use lib.ListN.{length, take, length-map}
+use Rattle.base.proofs.Cases.{first}
 use Rattle.base.specs.Refusals.{by}
+use Rattle.command.specs.Command.{leavesAlone}
 use Rattle.bus.proofs.Asking.{asked-answered, asked-small}
 use Rattle.bus.proofs.Lists.{changed, change-all}
-use Rattle.bus.proofs.Telling.{after, frame, heard-start, tell-turn, tell-alone, line-is-heard, told-is-command}
+use Rattle.bus.proofs.Taking.{taken-alone}
+use Rattle.bus.proofs.Telling.{after, frame, heard-start, tell-turn, tell-alone, lost-alone, line-is-heard, told-is-command}
+use Rattle.bus.proofs.Winners.{holds-asked, holds-silent}
 use Rattle.bus.specs.Bus.{countOf, refusedOn}
 use Rattle.bus.specs.Hearing.{quiet, heardFrom}
 use Rattle.bus.specs.declared.Bus.{Bus}
@@ -66,7 +70,7 @@ loop-holds c =
 turn-requires : tie.Need-turn-requires Inv-loop μ-loop
 turn-requires c κs =
     let at-decide = c .before .before .before in
-    let at-loop = at-decide .before .before .before .before in
+    let at-loop = at-decide .before .before .before .before .before in
     let at-command = at-loop .before .before .before .before in
     let at-asked = at-command .before .before in (
       at-loop .loop .inv .5,
@@ -74,14 +78,45 @@ turn-requires c κs =
       at-decide .decide .ensures,
     )
 
+-- a loser of CMD2 is left alone
 loop-again : tie.Need-loop-again Inv-loop μ-loop
 loop-again c =
+    let at-holds = c .before in
+    let at-contends = at-holds .before .before in
+    let at-loop = at-contends .before .before .before in
+    let l = at-loop .loop in
+    let found = at-loop .before .before .lowest in
+    let low = found .ensures in
+    let arises = at-contends .contends in
+    let asked = at-holds .before .if1 .taken in
+    let s = at-loop .before .before .before .before .before .before .before .before .before in
+    let bus = s .args .bus in
+    let long : length (bus .cards) ≡ 30 = simp length-map at (s .good .0 .1 .1 .0 .1 .0 .1) in
+    let lost = sym (not-true (at-holds .holds .result) (c .if2 .taken)) in
+    let more =
+    tell-alone bus _ _ (l .i) _ _ (l .next .cards) (l .heard) _ long (omega (arith, l .inv .1)) (low .0) (low .1) (l .inv .3) (l .inv .4)
+    (lost ∙ holds-asked (found .result) _ (arises .result) (arises .ensures) asked (at-holds .holds .ensures))
+    (lost-alone bus _ _ (found .result) _ (low .0) (first (found .result .any) _ (sym (arises .ensures) ∙ asked))) in
+    (search needs, l .inv .1, l .inv .2, more .0, more .1, l .inv .5)
+
+loop-again-2 : tie.Need-loop-again-2 Inv-loop μ-loop
+loop-again-2 c =
     let alone = c .before .leaves-alone in
     let at-decide = c .before .before in
-    let at-wins = at-decide .before in
-    let at-loop = at-wins .before .before .before in
+    let at-won = at-decide .before in
+    let at-contends = at-won .before in
+    let at-loop = at-contends .before .before .before in
     let l = at-loop .loop in
-    let low = at-loop .before .before .lowest .ensures in
+    let found = at-loop .before .before .lowest in
+    let low = found .ensures in
+    let arises = at-contends .contends in
+    let won =
+    ⊎-elim
+    (λ w.
+    w .3 ∙ sym (not-false (w .1 .result) (w .2 .left))
+    ∙ holds-asked (found .result) _ (arises .result) (arises .ensures) (w .0 .taken) (w .1 .ensures))
+    (λ w. w .1 ∙ holds-silent (found .result) _ (arises .result) (arises .ensures) (w .0 .left))
+    (at-won .if1 .came) in
     let s = at-loop .before .before .before .before .before .before .before .before .before in
     let bus = s .args .bus in
     let long : length (bus .cards) ≡ 30 = simp length-map at (s .good .0 .1 .1 .0 .1 .0 .1) in
@@ -89,7 +124,7 @@ loop-again c =
     (λ w.
     let more =
     tell-turn bus _ _ (l .i) _ _ (l .next .cards) (l .heard) _ _ long (omega (arith, l .inv .1)) (low .0) (low .1) (l .inv .3) (l .inv .4)
-    (at-wins .wins .ensures) (w .2 .ensures .0) in (
+    won (w .2 .ensures .0) in (
       search needs,
       l .inv .1,
       ap (λ (b : Bus). b .count) (w .5) ∙ l .inv .2,
@@ -99,8 +134,10 @@ loop-again c =
     ))
     (λ w.
     let more =
-    tell-alone bus _ _ (l .i) _ _ (l .next .cards) (l .heard) _ _ long (omega (arith, l .inv .1)) (low .0) (low .1) (l .inv .3) (l .inv .4)
-    (at-wins .wins .ensures) (at-decide .decide .ensures) (sym (alone .ensures) ∙ not-false (alone .result) (w .0 .left)) in (
+    tell-alone bus _ _ (l .i) _ _ (l .next .cards) (l .heard) _ long (omega (arith, l .inv .1)) (low .0) (low .1) (l .inv .3) (l .inv .4)
+    won
+    (taken-alone _ _ _ _
+    (ap leavesAlone (sym (at-decide .decide .ensures)) ∙ sym (alone .ensures) ∙ not-false (alone .result) (w .0 .left))) in (
       search needs,
       l .inv .1,
       ap (λ (b : Bus). b .count) (w .1) ∙ l .inv .2,
@@ -108,7 +145,7 @@ loop-again c =
       w .2 ∙ more .1,
       subst (λ (h : Heard). h .length ≤ 17) (sym (w .2)) (l .inv .5),
     ))
-    (c .if1 .came)
+    (c .if3 .came)
 
 returns-3 : tie.Need-returns-3 Inv-loop μ-loop
 returns-3 c =
@@ -153,6 +190,10 @@ frame-spec =
     (λ c. search needs)
     (λ c κs. search needs)
     (λ c κs. search needs)
+    (λ c. search needs)
+    (λ c. search needs)
+    loop-again
+    (λ c κs. search needs)
     (λ c κs. search needs)
     (λ c. search needs)
     (λ c. search needs)
@@ -161,7 +202,7 @@ frame-spec =
     (λ c. search needs)
     (λ c. search needs)
     (λ c. search needs)
-    loop-again
+    loop-again-2
     (λ c κs. c .before .loop .inv .5)
     (λ c κs. c .before .before .loop .inv .5)
     returns-3)

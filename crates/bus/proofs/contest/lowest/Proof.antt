@@ -1,5 +1,6 @@
 -- `bus::contest::lowest` meets its contract. The loop's invariant: the smallest CID of the cards so far, each of 16 bytes.
 -- Assumes nothing.
+use mathlib.Core.Logic.{⊎-elim}
 use mathlib.Core.Path.{_≡_, ap, _∙_, subst}
 use Prim.Native.Nat.{ℕ, _≤_, _<_, _-_}
 use native.Mathlib.Omega.{arith}
@@ -9,7 +10,7 @@ use borrow.Author.Tests.{eq-eqb, ne-eqb}
 use lib.ListN.{length, take, getD, length-map}
 use Rattle.card_record.specs.declared.Card.{Card}
 use Rattle.bus.proofs.Lists.{getD-any}
-use Rattle.bus.proofs.Winners.{low-start, low-turn}
+use Rattle.bus.proofs.Winners.{low-start, low-turn, better-silent, better-taken, better-left}
 use Rattle.bus.specs.Bus.{countOf}
 use Rattle.bus.specs.Contest.{lowFrom, lowFor, Held}
 use Rattle.shared_line.specs.Lowest.{noLow}
@@ -36,15 +37,24 @@ loop-holds c =
 
 loop-again : tie.Need-loop-again Inv-loop μ-loop
 loop-again c =
-    let s = c .before .before .before .before .before .before .before in
-    let l = c .before .before .before .loop in
+    let at-ready = c .before in
+    let s = at-ready .before .before .before .before .before .before .before in
+    let l = at-ready .before .before .before .loop in
+    let told = at-ready .is-ready .ensures in
     let cards = s .args .t1 .cards in
     let long : length cards ≡ 30 = simp length-map at (s .good .0 .1 .1 .0 .1 .0 .1) in
     let there : l .i < length cards = omega (arith, l .inv .1) in (
       search needs,
       l .inv .1,
-      low-turn noLow _ _ cards (l .i) _ there (l .inv .2) (c .better .ensures .0),
-      below-more _ (l .i) (l .inv .3) (λ d. subst Held (getD-any cards (l .i) _ d there) (c .better .ensures .1)),
+      ⊎-elim
+          (λ w. low-turn noLow _ _ cards (l .i) _ there (l .inv .2)
+          (w .5 ∙ better-taken (l .low) _ _ (told .0) (w .0 .taken) _ (w .3 .ensures) (w .4 .taken)))
+          (⊎-elim
+          (λ w. low-turn noLow _ _ cards (l .i) _ there (l .inv .2)
+          (w .5 ∙ better-left (l .low) _ _ (told .0) (w .0 .taken) _ (w .3 .ensures) (w .4 .left)))
+          (λ w. low-turn noLow _ _ cards (l .i) _ there (l .inv .2) (w .1 ∙ better-silent (l .low) _ _ (told .0) (w .0 .left))))
+          (c .if2 .came),
+      below-more _ (l .i) (l .inv .3) (λ d. subst Held (getD-any cards (l .i) _ d there) (told .1)),
     )
 
 returns-2 : tie.Need-returns-2 Inv-loop μ-loop
@@ -71,6 +81,7 @@ lowest-spec =
     loop-holds
     (λ c. search needs)
     (λ c. search needs)
+    (λ c κs. search needs)
     (λ c κs. search needs)
     (λ c. search needs)
     (λ c. search needs)

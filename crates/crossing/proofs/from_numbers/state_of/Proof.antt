@@ -1,47 +1,14 @@
--- `crossing::from_numbers::state_of` meets its contract: each arm is told its number, and the last that it is none of the others'.
+-- `crossing::from_numbers::state_of` meets its contract: each half answers by the definition of the whole.
 -- Assumes nothing.
-use borrow.Author.Tests.{ne-eqb}
-use Rattle.crossing.specs.Record.{stateOf}
+use borrow.Author.Needs.{needs}
 use Rattle.crossing.proofs.from_numbers.state_of.Statement.{statement}
 use Rattle.crossing.proofs.from_numbers.state_of.Tie as tie
 
 pub state-of-spec : {M : Type 1} → statement M
-unfolding stateOf
 state-of-spec =
     tie.close
     (tie.spec
-    (λ c. simp (c .match .keys1))
-    (λ c. simp (c .match .keys2))
-    (λ c. simp (c .match .keys3))
-    (λ c. simp (c .match .keys4))
-    (λ c. simp (c .match .keys5))
-    (λ c. simp (c .match .keys6))
-    (λ c. simp (c .match .keys7))
-    (λ c. simp (c .match .keys8))
-    (λ c. simp (c .match .keys9))
-    (λ c. simp (c .match .keys10))
-    (λ c. simp (c .match .keys11))
-    (λ c. simp (c .match .keys12))
-    (λ c. simp (c .match .keys13))
-    (λ c. simp (c .match .keys14))
-    (λ c. simp (c .match .keys15))
-    (λ c.
-    let i = c .before .args .number in
-    let rest = c .match .rest in
-    simp (
-      ne-eqb i 0 (rest .0 .0 .0 .0 .0 .0 .0 .0 .0 .0 .0 .0 .0 .0 .1),
-      ne-eqb i 1 (rest .0 .0 .0 .0 .0 .0 .0 .0 .0 .0 .0 .0 .0 .1),
-      ne-eqb i 2 (rest .0 .0 .0 .0 .0 .0 .0 .0 .0 .0 .0 .0 .1),
-      ne-eqb i 3 (rest .0 .0 .0 .0 .0 .0 .0 .0 .0 .0 .0 .1),
-      ne-eqb i 4 (rest .0 .0 .0 .0 .0 .0 .0 .0 .0 .0 .1),
-      ne-eqb i 5 (rest .0 .0 .0 .0 .0 .0 .0 .0 .0 .1),
-      ne-eqb i 6 (rest .0 .0 .0 .0 .0 .0 .0 .0 .1),
-      ne-eqb i 7 (rest .0 .0 .0 .0 .0 .0 .0 .1),
-      ne-eqb i 8 (rest .0 .0 .0 .0 .0 .0 .1),
-      ne-eqb i 9 (rest .0 .0 .0 .0 .0 .1),
-      ne-eqb i 10 (rest .0 .0 .0 .0 .1),
-      ne-eqb i 11 (rest .0 .0 .0 .1),
-      ne-eqb i 12 (rest .0 .0 .1),
-      ne-eqb i 14 (rest .0 .1),
-      ne-eqb i 15 (rest .1),
-    )))
+    (λ c κs. search needs)
+    (λ c. c .at-rest .ensures (c .before .before .args .at))
+    (λ c κs. search needs)
+    (λ c. search needs))

@@ -1,4 +1,4 @@
--- `crossing::to_numbers::mode_number` meets its contract: a flag is 0 or 1, so that the sum is at most 3.
+-- `crossing::to_numbers::mode_number` meets its contract: a flag is 0 or 1, so that the sum is at most 257.
 -- Assumes nothing.
 use native.Mathlib.Omega.{arith}
 use borrow.Author.Needs.{needs}

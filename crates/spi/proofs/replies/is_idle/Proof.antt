@@ -1,8 +1,8 @@
--- `spi::is_idle` meets its contract: the number of the state's column is 0.
+-- `spi::replies::is_idle` meets its contract: the number of the state's column is 0.
 -- Assumes nothing.
 use borrow.Author.Needs.{needs}
-use Rattle.spi.proofs.is_idle.Statement.{statement}
-use Rattle.spi.proofs.is_idle.Tie as tie
+use Rattle.spi.proofs.replies.is_idle.Statement.{statement}
+use Rattle.spi.proofs.replies.is_idle.Tie as tie
 
 pub is-idle-spec : {M : Type 1} → statement M
 is-idle-spec =

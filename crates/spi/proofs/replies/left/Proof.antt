@@ -1,8 +1,8 @@
--- `spi::left` meets its contract: each answer clears its own bits.
+-- `spi::replies::left` meets its contract: each answer clears its own bits.
 -- Assumes nothing.
 use borrow.Author.Needs.{needs}
-use Rattle.spi.proofs.left.Statement.{statement}
-use Rattle.spi.proofs.left.Tie as tie
+use Rattle.spi.proofs.replies.left.Statement.{statement}
+use Rattle.spi.proofs.replies.left.Tie as tie
 
 pub left-spec : {M : Type 1} → statement M
 left-spec =

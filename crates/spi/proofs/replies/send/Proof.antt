@@ -1,8 +1,8 @@
--- `spi::send` meets its contract: each answer has its own bytes.
+-- `spi::replies::send` meets its contract: each answer has its own bytes.
 -- Assumes nothing.
 use borrow.Author.Needs.{needs}
-use Rattle.spi.proofs.send.Statement.{statement}
-use Rattle.spi.proofs.send.Tie as tie
+use Rattle.spi.proofs.replies.send.Statement.{statement}
+use Rattle.spi.proofs.replies.send.Tie as tie
 
 pub send-spec : {M : Type 1} → statement M
 send-spec =

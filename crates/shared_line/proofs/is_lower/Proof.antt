@@ -1,13 +1,13 @@
--- `shared_line::lower` meets its contract: the first CID, or a comparison.
+-- `shared_line::is_lower` meets its contract: a test, and a comparison.
 -- Assumes nothing.
 use borrow.Author.Needs.{needs}
-use Rattle.shared_line.proofs.Orders.{lower-first, lower-by}
+use Rattle.shared_line.proofs.Orders.{lower-none, lower-by}
 use Rattle.shared_line.specs.declared.Order.the-variants.{Smaller, Same, Larger}
-use Rattle.shared_line.proofs.lower.Statement.{statement}
-use Rattle.shared_line.proofs.lower.Tie as tie
+use Rattle.shared_line.proofs.is_lower.Statement.{statement}
+use Rattle.shared_line.proofs.is_lower.Tie as tie
 
 returns : tie.Need-returns
-returns c = let a = c .before .before .args in lower-first (a .low) (a .cid) (c .if1 .taken)
+returns c = let a = c .before .before .args in lower-none (a .low) (a .cid) (c .if1 .taken)
 
 returns-2 : tie.Need-returns-2
 returns-2 c =
@@ -30,8 +30,8 @@ returns-4 c =
     let a = e .before .before .args in
     lower-by (a .low) (a .cid) (e .if1 .left) _ Larger (m .compare .ensures) (c .enum-told3 .given .1)
 
-pub lower-spec : {M : Type 1} → statement M
-lower-spec =
+pub is-lower-spec : {M : Type 1} → statement M
+is-lower-spec =
     tie.close
     (tie.spec
     returns

@@ -1,8 +1,8 @@
--- `spi::response_of` meets its contract: each return is told its tests.
+-- `spi::replies::response_of` meets its contract: each return is told its tests.
 -- Assumes nothing.
 use borrow.Author.Tests.{eq-eqb, ne-eqb}
-use Rattle.spi.proofs.response_of.Statement.{statement}
-use Rattle.spi.proofs.response_of.Tie as tie
+use Rattle.spi.proofs.replies.response_of.Statement.{statement}
+use Rattle.spi.proofs.replies.response_of.Tie as tie
 
 pub response-of-spec : {M : Type 1} → statement M
 response-of-spec =
