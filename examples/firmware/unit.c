@@ -114,6 +114,7 @@ static void set_length(void)
     unsigned long written;
     ask_status("The dock reads a block", 17, 0, 0x00000900);
     expect(mmc_card_block_out(&card, memory, SIZE, map, GROUPS, block, sizeof block, &written) == 0 && written == sizeof block, "the card sends 2,048 bytes and their CRC16");
+    ask_status("It would read one from 512 on, over the border at 2,048: bit 30", 17, SECTOR, 0x40000900);
     ask_status("It would write one straight away: bit 29", 24, LOG_AT, 0x20000900);
     ask_status("Or many: bit 29", 25, LOG_AT, 0x20000900);
     ask_status("It sets blocks of 512 bytes", 16, SECTOR, 0x00000900);

@@ -1,7 +1,7 @@
--- After a reset no block is written before CMD16 of 512 has come, whatever calls come meanwhile, in both modes.
+-- After a reset no block is written before a CMD16 of 512 was taken, whatever calls come meanwhile, in both modes.
 --   reset-leaves   a make that is not refused, power-on and CMD0 leave the link of a reset, whatever the CSD is
 --   reset-made     and a made card
---   until-set      from there on, along any calls none of which brings CMD16 of 512, no block can be written
+--   until-set      from there on, along any calls none of which is a CMD16 of 512 that the card takes, no block can be written
 -- Assumes nothing.
 use mathlib.Core.Path.{_≡_, refl, ap, _∙_, subst}
 use mathlib.Core.Bool.{Bool, true, false, not}
@@ -41,7 +41,7 @@ use Rattle.made.proofs.Links.{length-as}
 use Rattle.made.proofs.Run.{run-made}
 use Rattle.made.proofs.Stays.{make-made, step-made}
 use Rattle.made.proofs.Took.{heard-nothing}
-use Rattle.made.specs.BlockLength.{Brings, LengthLeft, kept, powered as by-power, idled as by-idle, asked}
+use Rattle.made.specs.BlockLength.{Sets, LengthLeft, kept, powered as by-power, idled as by-idle, set}
 use Rattle.made.specs.Made.{Made}
 use Rattle.made.specs.Run.{World, Input, given, next, runOf}
 use Rattle.moves.proofs.Among.{each}
@@ -126,12 +126,12 @@ reset-made (idled world wins selected frame argument right reads active low) =
 abbrev Unsized : ℕ → Type 0
 Unsized length = length ≡ 512 → ⊥
 
-left-unsized : (card : Card) (input : Input) {length : ℕ} → LengthLeft card input length → (Brings card input 16 512 → ⊥)
+left-unsized : (card : Card) (input : Input) {length : ℕ} → LengthLeft card input length → (Sets card input 512 → ⊥)
     → Unsized (card .link .length) → Unsized length
 left-unsized card input kept other unsized = unsized
 left-unsized card input (by-power e) other unsized = λ n. omega arith
 left-unsized card input (by-idle argument frame) other unsized = λ n. omega arith
-left-unsized card input (asked n frame some few) other unsized = λ e. other (subst (Brings card input 16) e frame)
+left-unsized card input (set n taken) other unsized = λ e. other (subst (Sets card input) e taken)
 
 run-unsized : (world : World) (inputs : List Input) → Unset world inputs → Unsized (world .card .link .length) → Unsized (runOf world inputs .card .link .length)
 unfolding runOf next

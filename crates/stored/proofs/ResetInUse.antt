@@ -1,6 +1,7 @@
 -- An unlocked card straight after a reset, in use, computed, in MMC mode and in SPI (document 02, request 2): what `until-set` speaks of happens.
 --   comes-from-make, comes-from-power, comes-from-idle, comes-from-low    made; powered on; sent CMD0, and CMD0 with its select line low, which is
 --                     that of SPI: whatever its block length was before, the card that is then taken to tran is the same, with blocks of 2,048 bytes
+--   early-unset       nor does a CMD16 of 512 before it is selected make it another
 --   reset-unwritable  it is one that `until-set` speaks of
 --   writes-refused    there CMD24 and CMD25 answer bit 29, and change nothing
 --   write-begins, writes-begin    CMD16 of 512, and then they go to rcv
@@ -118,9 +119,14 @@ comes-from-make false = refl
 -- none of these commands is CMD16 of 512, so that `until-set` speaks of this card
 none-sets : (spi : Bool) → Unset begins (toTran spi)
 unfolding commandFrame sealed framingOf fieldsOf crc7Of remainder divide bits
-none-sets true = (λ b. another 0 (b .heard .framing) refl, (λ b. another 1 (b .heard .framing) refl, tt))
+none-sets true = (λ b. another 0 (b .brought .heard .framing) refl, (λ b. another 1 (b .brought .heard .framing) refl, tt))
 none-sets false =
-    (λ b. another 1 (b .heard .framing) refl, (λ b. another 2 (b .heard .framing) refl, (λ b. another 3 (b .heard .framing) refl, (λ b. another 7 (b .heard .framing) refl, tt))))
+    (λ b. another 1 (b .brought .heard .framing) refl, (λ b. another 2 (b .brought .heard .framing) refl, (λ b. another 3 (b .brought .heard .framing) refl, (λ b. another 7 (b .brought .heard .framing) refl, tt))))
+
+-- CMD16 of 512 that comes too early, before the card is selected, is met with silence and sets nothing
+pub early-unset : runOf begins (commands false ((1, 0x00FF8000) ∷ (2, 0) ∷ (3, 0x00010000) ∷ (16, 512) ∷ (7, 0x00010000) ∷ [])) ≡ reset false
+unfolding runOf next madeOf passwordMade lockMadeOf poweredOf stored holding registerRight lastByte freshLink crc7Of remainder divide bits entriesRight commandFrame sealed framingOf fieldsOf frameStepped frameJudged heardOf commandOf rowOf transferRow moveOf classOf takenOf actedOf afterChecks answered responseOf resetTold wordOf judgedOf taggingOf argumentFault obeyed awaitedBy changeOf
+early-unset = refl
 
 pub reset-unwritable : (spi : Bool) → Unwritable (reset spi .card)
 unfolding madeOf passwordMade lockMadeOf registerRight lastByte crc7Of remainder divide bits entriesRight

@@ -13,7 +13,7 @@ use Rattle.command.specs.Command.{metBy, commandOf}
 use Rattle.demands.specs.Faulted.{Faulted}
 use Rattle.demands.specs.InSpi.{FaultedInSpi}
 use Rattle.demands.specs.Silenced.{Reads}
-use Rattle.made.specs.BlockLength.{Brings}
+use Rattle.made.specs.BlockLength.{Sets}
 use Rattle.made.specs.Made.{Made}
 use Rattle.made.specs.Run.{World, Input, given, next, madeLent, begun}
 use Rattle.moves.specs.Indices.{among}
@@ -32,10 +32,10 @@ pub data AfterReset : World → Type 0 where
       → (world .card .link .state ≡ Ina → ⊥) → (world .card .mode .spi ≡ true → selected ≡ true)
       → AfterReset (next world (given (Frame wins selected) frame))
 
--- calls at a card, one after the other, none of which brings it CMD16 of 512
+-- calls at a card, one after the other, none of which is a CMD16 of 512 that it takes
 abbrev pub Unset : World → List Input → Type 0
 Unset world [] = Unit {0}
-Unset world (input ∷ inputs) = (Brings (world .card) input 16 sectorSize → ⊥) × Unset (next world input) inputs
+Unset world (input ∷ inputs) = (Sets (world .card) input sectorSize → ⊥) × Unset (next world input) inputs
 
 -- a card that no block can be written to: its block length is not 512, it awaits no write, and in tran, unlocked, CMD24 and CMD25 "answer bit 29",
 -- whatever they address, and stay: so MMC mode takes them (`commandOf`), and SPI takes CMD24 so. (CMD25 is illegal in SPI)
