@@ -20,7 +20,7 @@ static u8 add(struct bus *bus, const u8 *cid)
     if (bus->count >= MOST)
         return BUS_CARDS;
     struct mmc_card *card = &bus->cards[bus->count++];
-    card->numbers = (struct mmc_numbers){.state = READY, .address = 1, .length = 512, .groups = 1, .ocr = 0x00FF8000};
+    card->numbers = (struct mmc_numbers){.state = READY, .address = 1, .length = DEFAULT_LENGTH, .groups = 1, .ocr = 0x00FF8000};
     for (int i = 0; i < REGISTER; i++) {
         card->cid[i] = cid[i];
         card->csd[i] = i == REGISTER - 1;

@@ -9,6 +9,8 @@ enum { SPI = 1, CHECKS = 256 };
 /* What goes before a block in SPI, and the data responses to one. */
 enum { START_BYTE = 0xFE, ACCEPTED = 0x05, BAD_CRC = 0x0B };
 enum { REGISTER = 16, LONGEST_PASSWORD = 16, LONGEST = 2048, GROUP = 8192, MOST_GROUPS = 4096 };
+/* The block length after a reset. */
+enum { DEFAULT_LENGTH = 2048 };
 
 #define OUT_OF_RANGE 0x80000000u
 #define ADDRESS_ERROR 0x40000000u

@@ -24,7 +24,7 @@ static void reset(struct mmc_numbers *card)
 {
     card->state = IDLE;
     card->address = 1;
-    card->length = 512;
+    card->length = DEFAULT_LENGTH;
     card->errors = 0;
     card->tags = NO_TAGS;
 }

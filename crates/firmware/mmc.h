@@ -82,7 +82,7 @@ struct mmc_numbers {
     unsigned int state;           /* enum mmc_state */
     unsigned int at;              /* what `state` carries, else 0 */
     unsigned int address;         /* the card's address on the bus, 16 bits */
-    unsigned int length;          /* the block length, 16 bits */
+    unsigned int length;          /* the block length, 16 bits: 2,048 after a make, power-on and CMD0; CMD16 sets it, and a write wants 512 */
     unsigned int errors;          /* the error bits that wait for an answer that shows them, each in its place of the status */
     unsigned int tags;            /* enum mmc_tags */
     unsigned int first, last;     /* what `tags` carries, else 0 */

@@ -1,6 +1,6 @@
-/* A bench tester that has only SPI pins, as its C firmware would have it: it brings a card into SPI, reads its CSD, writes a block and reads it
-   back, asks how the write went, and switches the checking of CRCs on. Each exchange is told in plain words and checked; the program ends with
-   1 if one is not as expected. */
+/* A bench tester that has only SPI pins, as its C firmware would have it: it brings a card into SPI, reads its CSD, sets the block length, writes
+   a block and reads it back, asks how the write went, and switches the checking of CRCs on. Each exchange is told in plain words and checked;
+   the program ends with 1 if one is not as expected. */
 #include "mmc.h"
 
 /* The kit has no headers: what is taken from the C library is declared here. */
@@ -12,7 +12,7 @@ enum { GROUP = 8192, GROUPS = 8, SIZE = GROUPS * GROUP, SECTOR = 512, BLOCK = 1 
 enum { OCR = 0x00FF8000, TEST_AT = 0x2200, HIGH = 0, LOW = 1 };
 
 /* R1's bits, and no data response. */
-enum { READY = 0x00, IDLE = 0x01, ILLEGAL = 0x04, CRC_WRONG = 0x08, NONE = 0x100 };
+enum { READY = 0x00, IDLE = 0x01, ILLEGAL = 0x04, CRC_WRONG = 0x08, LENGTH_WRONG = 0x40, NONE = 0x100 };
 
 /* The card under test, with the memory and the map that it is lent. */
 static unsigned char memory[SIZE], map[GROUPS];
@@ -155,6 +155,14 @@ static void ask_status(const char *says, unsigned char first, unsigned char seco
     ask(says, 13, 0, r2, sizeof r2);
 }
 
+/* Blocks have 2,048 bytes after a reset, and a written one has 512: the tester has to say so first. */
+static void set_length(void)
+{
+    expect(card.numbers.length == 2048, "the card's blocks have 2,048 bytes");
+    ask_r1("It would write a block straight away: the length is wrong", 24, TEST_AT, LENGTH_WRONG);
+    ask_r1("It sets blocks of 512 bytes", 16, SECTOR, READY);
+}
+
 static void write_block(const unsigned char *pattern)
 {
     ask_r1("It is about to write a block", 24, TEST_AT, READY);
@@ -185,7 +193,7 @@ static void check_crcs(const unsigned char *pattern)
     ask_r1("It tries again", 24, TEST_AT, READY);
     printf("It sends the block with another start byte: refused 16, with no data response\n");
     give(pattern, 0xFC, 0, 16, NONE);
-    ask_status("It asks how the write went: the length was wrong", 0x40, 0x00);
+    ask_status("It asks how the write went: the length was wrong", LENGTH_WRONG, 0x00);
     ask_status("It asks again: it was told", 0x00, 0x00);
 }
 
@@ -226,6 +234,7 @@ int main(void)
     enter_spi();
     speak_to_another();
     read_csd(csd);
+    set_length();
     write_block(pattern);
     read_block(pattern);
     check_crcs(pattern);

@@ -83,6 +83,8 @@ static int prepare(const struct situation *s)
     int bad = mmc_card_make(&card, cid, csd, OCR, (const unsigned char *)"", 0, memory, SIZE, map, GROUPS) != 0;
     bad |= mmc_write_command((unsigned char)s->index, s->argument, frame, sizeof frame) != 0;
     bad |= mmc_write_block(payload, sizeof payload, block, length) != 0;
+    /* As CMD16 sets it: a made card has blocks of 2,048 bytes. */
+    card.numbers.length = sizeof payload;
     card.numbers.state = s->state;
     card.numbers.tags = s->tags;
     card.numbers.last = 1;

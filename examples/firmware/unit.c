@@ -1,6 +1,6 @@
-/* One night of one unit, as its C firmware would have it: the unit makes its card over 32 MiB, the dock finds it, writes a block of a shift
-   log and reads it back; then what a host may stumble on (docs/HOSTS.md). Each step is told in plain words and checked; the program ends
-   with 1 if one is not as expected. */
+/* One night of one unit, as its C firmware would have it: the unit makes its card over 32 MiB, the dock finds it, sets the block length, writes
+   a block of a shift log and reads it back; then what a host may stumble on (docs/HOSTS.md). Each step is told in plain words and checked; the
+   program ends with 1 if one is not as expected. */
 #include "mmc.h"
 
 /* The kit has no headers: what is taken from the C library is declared here. */
@@ -9,7 +9,7 @@ int memcmp(const void *a, const void *b, unsigned long length);
 void *memcpy(void *to, const void *from, unsigned long length);
 void *memset(void *to, int byte, unsigned long length);
 
-enum { GROUP = 8192, GROUPS = 4096, SIZE = GROUPS * GROUP, SECTOR = 512, BLOCK = SECTOR + 2 };
+enum { GROUP = 8192, GROUPS = 4096, SIZE = GROUPS * GROUP, SECTOR = 512, BLOCK = SECTOR + 2, LONGEST = 2048 };
 enum { OCR = 0x00FF8000, ADDRESS = 1, LOG_AT = 0x1000 };
 
 /* The unit owns all of it and lends it to each call. There is one group more than a card may have, for the make that is refused. */
@@ -86,6 +86,7 @@ static void make_card(const unsigned char *cid, const unsigned char *csd)
     memset(memory, 0xFF, sizeof memory);
     expect(mmc_card_make(&card, cid, csd, OCR, NOTHING, 0, memory, SIZE, map, GROUPS) == 0, "the card is made");
     expect(card.numbers.state == MMC_IDLE && card.numbers.groups == GROUPS && card.numbers.locked == 0, "it is in Idle, has 4,096 groups, and is not locked");
+    expect(card.numbers.length == LONGEST, "its blocks have 2,048 bytes");
 }
 
 static void find_card(const unsigned char *cid, const unsigned char *csd)
@@ -104,6 +105,19 @@ static void find_card(const unsigned char *cid, const unsigned char *csd)
     ask_status("It gives the card address 1", 3, ADDRESS << 16, 0x00000500);
     ask("It asks for the card's CSD", 9, ADDRESS << 16, specifics, sizeof specifics);
     ask_status("It selects the card", 7, ADDRESS << 16, 0x00000700);
+}
+
+/* After a reset, CMD0 here, blocks have 2,048 bytes: a dock reads such a block straight away, and before it writes it has to set 512. */
+static void set_length(void)
+{
+    static unsigned char block[LONGEST + 2];
+    unsigned long written;
+    ask_status("The dock reads a block", 17, 0, 0x00000900);
+    expect(mmc_card_block_out(&card, memory, SIZE, map, GROUPS, block, sizeof block, &written) == 0 && written == sizeof block, "the card sends 2,048 bytes and their CRC16");
+    ask_status("It would read one from 512 on, over the border at 2,048: bit 30", 17, SECTOR, 0x40000900);
+    ask_status("It would write one straight away: bit 29", 24, LOG_AT, 0x20000900);
+    ask_status("Or many: bit 29", 25, LOG_AT, 0x20000900);
+    ask_status("It sets blocks of 512 bytes", 16, SECTOR, 0x00000900);
 }
 
 /* The dock sends 512 bytes and their CRC16; the card answers its number. */
@@ -190,7 +204,7 @@ static void misread_csd(void)
 {
     ask("The dock tells how many blocks are to follow, as a card of version 3 could take it", 23, 1, NOTHING, 0);
     ask_status("This card has no such command: bit 22", 13, ADDRESS << 16, 0x00400900);
-    ask_status("It sets blocks of 2,048 bytes, to read", 16, 2048, 0x00000900);
+    ask_status("It sets blocks of 2,048 bytes, to read", 16, LONGEST, 0x00000900);
     ask_status("and would write such a block: bit 29", 24, 2 * GROUP, 0x20000900);
     ask_status("It sets 512 bytes again", 16, SECTOR, 0x00000900);
 }
@@ -213,6 +227,7 @@ static void lose_power(const unsigned char *log)
     printf("The unit loses its power and has it again\n");
     mmc_card_power_on(&card);
     expect(card.numbers.state == MMC_IDLE && memcmp(memory + LOG_AT, log, SECTOR) == 0, "the card is in Idle, and the log is still in its memory");
+    expect(card.numbers.length == LONGEST, "its blocks have 2,048 bytes again");
 }
 
 /* The CSDs of docs/HOSTS.md, each as `make_csd` has it, and good for a card over its memory; with another last byte it is refused, 9. */
@@ -265,6 +280,7 @@ int main(void)
     memcpy(log, NIGHT, sizeof NIGHT - 1);
     make_card(cid, csd);
     find_card(cid, csd);
+    set_length();
     write_log(log);
     read_log(log);
     damage_a_frame();

@@ -1,6 +1,6 @@
 //! One card: its record, making, power-on, work done, and how it takes a frame.
-//! Every comment in quotation marks is a sentence of document 01 or, of SPI, of request 1 of document
-//! 02, and the code under it says the same.
+//! Every comment in quotation marks is a sentence of document 01 or of one of the requests of document
+//! 02 (1 is SPI, 2 the block length after a reset), and the code under it says the same.
 
 use crate::erase::Tags;
 pub use crate::state::*;
@@ -11,6 +11,9 @@ pub const SECTOR: u64 = 512;
 pub const ERASE_GROUP: u64 = 4_096;
 pub const PROTECTION_GROUP: u64 = 8_192;
 pub const READ_BLOCK: u64 = 2_048;
+
+/// "Power-on and CMD0 now leave 2,048 where 01 says 512": a number, and not what the card's CSD says.
+pub const LENGTH_AFTER_RESET: u64 = 2_048;
 
 /// The error bits of the card status, by the standard's names.
 pub const OUT_OF_RANGE: u32 = 1 << 31;
@@ -100,7 +103,7 @@ impl Card {
             locked: false,
             state: State::Idle,
             address: 1,
-            block_length: 512,
+            block_length: LENGTH_AFTER_RESET,
             errors: 0,
             tags: None,
             mode: Mode::Mmc,
@@ -109,7 +112,7 @@ impl Card {
         Ok(card)
     }
 
-    /// "Power-on, from any state: Idle, address 1 (003), block length 512, no tags or error bits,
+    /// "Power-on, from any state: Idle, address 1 (003), block length [2,048], no tags or error bits,
     /// locked exactly if a password is stored." A card "leaves [SPI] by power-on only".
     pub fn power_on(&mut self) {
         self.reset();
@@ -121,7 +124,7 @@ impl Card {
     fn reset(&mut self) {
         self.state = State::Idle;
         self.address = 1;
-        self.block_length = 512;
+        self.block_length = LENGTH_AFTER_RESET;
         self.errors = 0;
         self.tags = None;
     }

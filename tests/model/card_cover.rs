@@ -52,6 +52,7 @@ impl Cover {
         self.failed = None;
         self.outlived.clear();
         self.shown_beside_3 = false;
+        self.unset_since = Some("make");
         let mut script = Script(script);
         let mut bench = None;
         while let Some(next) = script.next(bench.is_none()) {
@@ -85,6 +86,7 @@ impl Cover {
             self.watch_lent(number, bench);
         }
         let seen = Seen { record, line: &line, before: &before, after: &bench.card, map: &map };
+        self.watch_reset(&seen);
         match (record, before.mode) {
             (Record::WriteFrame(..), _) => self.met(told("write_frame", &line)),
             (Record::WriteBlock(..), _) => self.met(told("write_block", &line)),

@@ -1,7 +1,7 @@
 //! Everything that a card can reach in scripts of `cardline`, as points with names.
 
 use crate::card::State;
-use crate::spi_points;
+use crate::{reset_cover, spi_points};
 use std::collections::BTreeSet;
 
 pub const STATES: [&str; 10] = ["idle", "ready", "ident", "stby", "tran", "data", "rcv", "prg", "dis", "ina"];
@@ -106,6 +106,7 @@ pub fn expected() -> BTreeSet<String> {
     points.extend(NAMED.trim().lines().map(|point| point.trim().to_string()));
     points.extend(lock_requests());
     points.extend(spi_points::expected());
+    points.extend(reset_cover::expected());
     points
 }
 

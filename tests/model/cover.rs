@@ -16,6 +16,8 @@ pub struct Cover {
     pub failed: Option<String>,
     /// What the tags of a card in SPI have outlived so far.
     pub outlived: BTreeSet<&'static str>,
+    /// How the card was last reset, if no CMD16 was taken since.
+    pub unset_since: Option<&'static str>,
     /// Whether the last record was a frame in SPI whose R1, beside number 3, showed a bit of a block.
     pub shown_beside_3: bool,
 }

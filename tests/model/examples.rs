@@ -58,6 +58,31 @@ fn a_card_on_its_way_to_tran() {
     assert_eq!(answer(&["400000000097"]), Err(3));
 }
 
+/// "CMD24 and 25 answer bit 29 until then", which is CMD16 of 512 (request 2 of document 02).
+#[test]
+fn a_write_after_a_reset() {
+    let frames = [wire::command(7, 0x0001_0000), wire::command(16, 512), wire::command(25, 512)].map(|frame| wire::hex(&frame));
+    let [select, set_length, write] = &frames;
+    let straight_away = [&TO_STBY[..], &[select, write]].concat();
+    assert_eq!(answer(&straight_away), Ok(Some(wire::r1(25, 0x2000_0900))));
+    let then = [&TO_STBY[..], &[select, set_length, write]].concat();
+    assert_eq!(answer(&then), Ok(Some(wire::r1(25, 0x0000_0900))));
+}
+
+/// "Power-on and CMD0 now leave 2,048 where 01 says 512."
+#[test]
+fn the_block_length_after_a_reset() {
+    let used = Card { block_length: 8, state: State::Tran, ..made(&[]).unwrap() };
+    let mut powered = used.clone();
+    powered.power_on();
+    let idle = [Select::High, Select::Low].map(|select| {
+        let mut card = used.clone();
+        card.frame(&wire::command(0, 0), select, &mut [0; 8_192], &mut [0]).unwrap();
+        card.block_length
+    });
+    assert_eq!([made(&[]).unwrap().block_length, powered.block_length, idle[0], idle[1]], [2_048; 4]);
+}
+
 #[test]
 fn the_second_cid_of_the_shared_line() {
     let mut first = [0; 15];

@@ -28,6 +28,7 @@ mod lock_cover;
 mod moves;
 mod program;
 mod requests;
+mod reset_cover;
 mod script;
 mod spi;
 mod spi_cover;

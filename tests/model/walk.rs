@@ -199,7 +199,12 @@ impl Walk {
         self.command(16, length);
     }
 
+    /// The block of a reset is long to print, and shows little more than a shorter one: mostly another
+    /// length is set first.
     fn read(&mut self) {
+        if self.card().block_length == LENGTH_AFTER_RESET && self.dice.percent(70) {
+            self.set_block_length();
+        }
         let index = self.dice.pick(&[17, 18, 18]);
         let length = self.card().block_length as u32;
         let address = match self.dice.below(4) {

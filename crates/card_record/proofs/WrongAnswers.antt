@@ -8,8 +8,9 @@
 --   length-over            one of 2,049 read as it is
 --   crosses-at-end         a block that ends with its read block taken to cross it
 --   crosses-unseen         one that goes on by a byte taken not to
---   fresh-unaddressed, fresh-longest    a reset to the address 0, one to the longest block
---   powered-keeps-address, powered-keeps-tags    power-on that keeps the address, or the tags
+--   fresh-unaddressed, fresh-sector    a reset to the address 0, one to blocks of a sector, as document 01 had it
+--   powered-keeps-address, powered-keeps-tags, powered-keeps-length    power-on that keeps the address, the tags or the block length
+--   powered-by-csd         power-on that takes the block length from the CSD
 --   powered-unlocked       power-on that leaves a card with a password unlocked
 --   powered-inactive       power-on that leaves a card Inactive
 --   worked-rcv             work done that takes rcv to tran
@@ -21,8 +22,10 @@
 --   made-map-first         8 given where 7 is to be
 --   made-csd-unread        a card made with a CSD whose last byte is wrong
 --   made-unlocked          a card made with a password, and unlocked
+--   made-by-csd            a card made with the block length that its CSD tells
 --   made-never             a make that refuses all
---   refused-keeps-cid, refused-idle    a refused make that returns the CID it was given, or a card in Idle
+--   refused-keeps-cid, refused-idle, refused-length    a refused make that returns the CID it was given, a card in Idle, or one with the block
+--                          length of a reset
 -- Assumes nothing.
 use mathlib.Core.Path.{_≡_, sym, ap}
 use mathlib.Core.Bool.{true, false}
@@ -54,11 +57,18 @@ use Rattle.card_record.specs.declared.Making.the-variants.{Done, Refused
 abbrev zeros : List ℕ
 zeros = replicate 15 0 ++ (1 ∷ [])
 
+-- a CSD that tells blocks of 1,024 bytes, 2 to the power of bits 83 to 80
+abbrev kilobyte : List ℕ
+kilobyte = set (replicate 15 0) 5 10
+
+abbrev ofKilobytes : List ℕ
+ofKilobytes = kilobyte ++ (lastByte kilobyte ∷ [])
+
 -- a card at work, with a password of two bytes and unlocked, tags and an error bit
 abbrev busy : State → Card
 busy s =
     record {
-      registers = record { cid = zeros; csd = zeros; ocr = 0x00FF8000; groups = 1 };
+      registers = record { cid = zeros; csd = ofKilobytes; ocr = 0x00FF8000; groups = 1 };
       lock = holding (7 ∷ 9 ∷ []) false;
       link = record { state = s; address = 7; length = 16; errors = record { bits = 0x00800000 }; tags = record { range = Start Sectors 3 } };
       mode = record { spi = true; checks = true };
@@ -101,9 +111,9 @@ fresh-unaddressed : freshLink .address ≡ 0 → ⊥
 unfolding freshLink
 fresh-unaddressed e = omega arith
 
-fresh-longest : freshLink .length ≡ 2048 → ⊥
+fresh-sector : freshLink .length ≡ 512 → ⊥
 unfolding freshLink
-fresh-longest e = omega arith
+fresh-sector e = omega arith
 
 powered-keeps-address : poweredOn (busy Tran) .link .address ≡ 7 → ⊥
 unfolding poweredOn freshLink
@@ -112,6 +122,14 @@ powered-keeps-address e = omega arith
 powered-keeps-tags : poweredOn (busy Tran) .link .tags .range ≡ Start Sectors 3 → ⊥
 unfolding poweredOn freshLink
 powered-keeps-tags e = clash cc
+
+powered-keeps-length : poweredOn (busy Tran) .link .length ≡ 16 → ⊥
+unfolding poweredOn freshLink
+powered-keeps-length e = omega arith
+
+powered-by-csd : poweredOn (busy Tran) .link .length ≡ 1024 → ⊥
+unfolding poweredOn freshLink
+powered-by-csd e = omega arith
 
 powered-unlocked : poweredOn (busy Tran) .lock .locked ≡ false → ⊥
 unfolding poweredOn poweredOf stored holding
@@ -158,6 +176,10 @@ made-unlocked : made 0x00FF8000 (7 ∷ 9 ∷ []) 8192 .card .lock .locked ≡ fa
 unfolding madeOf passwordMade lockMadeOf poweredOf stored holding entriesRight registerRight lastByte crc7Of remainder divide bits
 made-unlocked e = never (sym e)
 
+made-by-csd : madeOf zeros ofKilobytes 0x00FF8000 [] 8192 (0 ∷ []) .card .link .length ≡ 1024 → ⊥
+unfolding madeOf passwordMade lockMadeOf freshLink entriesRight registerRight lastByte crc7Of remainder divide bits
+made-by-csd e = omega arith
+
 made-never : made 0x00FF8000 [] 8192 .making ≡ Refused (by 7) → ⊥
 unfolding madeOf passwordMade lockMadeOf entriesRight registerRight lastByte crc7Of remainder divide bits
 made-never e = clash cc
@@ -169,3 +191,7 @@ refused-keeps-cid e = clash (ap (λ (l : List ℕ). getD l 15 0) e)
 refused-idle : made 0x00FF8000 [] 8191 .card .link .state ≡ Idle → ⊥
 unfolding madeOf refusedMake
 refused-idle e = clash cc
+
+refused-length : made 0x00FF8000 [] 8191 .card .link .length ≡ 2048 → ⊥
+unfolding madeOf refusedMake
+refused-length e = omega arith

@@ -1,4 +1,5 @@
--- Document 01, "How a card takes a frame": power-on and work done. Document 02, request 1: power-on in SPI.
+-- Document 01, "How a card takes a frame": power-on and work done. Document 02, request 1: power-on in SPI; request 2: the block length after a
+-- reset.
 -- Assumes nothing.
 use mathlib.Core.Bool.{false}
 use Prim.Native.Nat.{ℕ}
@@ -12,11 +13,12 @@ use Rattle.card_record.specs.declared.Card.{Card}
 use Rattle.card_record.specs.declared.Link.{Link}
 use Rattle.card_record.specs.declared.Mode.{Mode}
 
--- "block length 512" after a reset: a name of its own, since a sector is 512 bytes for another reason
+-- "Power-on and CMD0 now leave 2,048 where 01 says 512" (document 02, request 2): this number, whatever the CSD says. A name of its own, since
+-- the longest block and a physical read block have as many bytes for reasons of theirs
 abbrev pub defaultLength : ℕ
-defaultLength = 512
+defaultLength = 2048
 
--- "Idle, address 1 (003), block length 512, no tags or error bits"
+-- "Idle, address 1 (003), block length [2,048], no tags or error bits"
 unfoldable pub freshLink : Link
 freshLink = record { state = Idle; address = 1; length = defaultLength; errors = noErrors; tags = noTags }
 

@@ -78,6 +78,9 @@ pub enum Sent {
     DataResponse(u8),
 }
 
+// The block length after a reset (document 02, request 2).
+const DEFAULT_LENGTH: u16 = 2048;
+
 // The sizes of document 01, in the types that they are used in here.
 const LONGEST_BLOCK: u16 = wire::LONGEST_BLOCK as u16;
 
@@ -128,7 +131,7 @@ pub fn fresh() -> Link
     Link {
         state: State::Idle,
         address: 1,
-        length: 512,
+        length: DEFAULT_LENGTH,
         errors: status::none(),
         tags: tags::no_tags(),
     }

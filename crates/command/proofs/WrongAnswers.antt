@@ -11,6 +11,7 @@
 --   long-block-taken         CMD16 of 2,049 is taken
 --   status-drops-tags        CMD13 drops tags
 --   reset-told-by-cmd0       CMD0 leaves bit 13 for the tags that it drops
+--   reset-keeps-length       CMD0 leaves the block length as it was
 -- Of what a taken command does, before any answer:
 --   act-clears-bits          CMD17 clears the bits that wait
 --   act-moves-with-fault     CMD17 past the end goes to data
@@ -135,6 +136,10 @@ status-drops-tags e = clash cc
 reset-told-by-cmd0 : commandOf (card Tran 0 started) (met false) 0 0 .link .errors .bits ≡ 0x00002000 → ⊥
 unfolding commandOf rowOf moveOf takenOf actedOf freshLink responseOf answered wordOf
 reset-told-by-cmd0 e = omega arith
+
+reset-keeps-length : commandOf (card Tran 0 noTags) (met false) 0 0 .link .length ≡ 512 → ⊥
+unfolding commandOf rowOf moveOf takenOf actedOf freshLink responseOf answered wordOf
+reset-keeps-length e = omega arith
 
 act-clears-bits : actedOf (card Tran 0x80400000 noTags) (met false) 17 0 ToData .errors .bits ≡ 0 → ⊥
 unfolding actedOf judgedOf taggingOf argumentFault afterChecks resetTold

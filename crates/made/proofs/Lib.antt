@@ -1,7 +1,9 @@
 pub mod Acted
+pub mod BlockLength
 pub mod Blocks
 pub mod Commands
 pub mod Faults
+pub mod Heard
 pub mod InSpi
 pub mod InRange
 pub mod Kept

@@ -2,14 +2,16 @@
 --   fresh-made       after power-on and CMD0
 --   damaged-made     after a frame whose CRC7 is wrong, in MMC mode
 --   errors-made      with other error bits that can wait
+--   length-as        a block length that CMD16 could have set is read as it stands
 --   at-waits         the state that a column stands for waits for nothing, or for the work
 --   told-pending     the pending error bits with 13, where the command drops tags, in MMC mode
 --   left-pending     the error bits that MMC mode's answer leaves
 -- Assumes nothing.
-use mathlib.Core.Path.{refl}
+use mathlib.Core.Path.{_≡_, refl}
 use mathlib.Core.Bool.{Bool, false}
-use Prim.Native.Nat.{ℕ}
+use Prim.Native.Nat.{ℕ, _≤_}
 use native.Mathlib.Omega.{arith}
+use borrow.Author.Tests.{le-leb}
 use lib.Dec.{eqb}
 use Rattle.base.proofs.Cases.{picked, guarded, never}
 use Rattle.command.specs.Answers.{leftOf}
@@ -18,7 +20,7 @@ use Rattle.command.specs.Obey.{dropsTags, resetTold, stateAt}
 use Rattle.command.specs.declared.Response.{Response}
 use Rattle.command.specs.declared.Response.the-variants.{Nothing, R1, R2, R3}
 use Rattle.card_record.specs.Power.{freshLink}
-use Rattle.card_record.specs.Record.{withErrors}
+use Rattle.card_record.specs.Record.{lengthRead, withErrors}
 use Rattle.card_record.specs.declared.Link.{Link}
 use Rattle.states.specs.States.{columnOf, columnNumber}
 use Rattle.states.specs.declared.Column.{Column}
@@ -28,6 +30,7 @@ use Rattle.status.specs.ErrorBits.{errorBit}
 use Rattle.status.specs.Status.{withBit}
 use Rattle.status.specs.declared.Errors.{Errors}
 use Rattle.tags.specs.Tagging.{anyOf}
+use Rattle.wire.specs.Blocks.{longestBlock}
 use Rattle.made.proofs.Pending.{none-pending, set-pending, taken-pending}
 use Rattle.made.specs.Made.{Waits, Pending, MadeLink}
 
@@ -46,6 +49,9 @@ unfolding damagedLink
 damaged-made groups locked link made =
     picked (MadeLink false groups locked) (eqb (columnNumber (columnOf (link .state))) 9) (λ t. made)
     (λ t. errors-made false groups locked link (withBit (link .errors) (errorBit 23)) made (set-pending false (link .errors) (errorBit 23) refl (made .errors)))
+
+pub length-as : (length : ℕ) → (1 ≤ length) × (length ≤ longestBlock) → lengthRead length ≡ length
+length-as length set = simp (le-leb 1 length (set .0), le-leb length longestBlock (set .1))
 
 pub at-waits : (groups length : ℕ) (locked : Bool) (column : Column) (work : State) → Waits groups length locked work → Waits groups length locked (stateAt column work)
 at-waits groups length locked Idle work w = tt

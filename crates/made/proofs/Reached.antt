@@ -1,6 +1,6 @@
 -- What a made card reaches, computed: neither making nor the states that `Made` speaks of are out of reach, and there are records that are not made.
 --   made-some          a card of 8,192 bytes is made, and not refused
---   reaches-one        five frames take it to where it awaits one block, at 512
+--   reaches-one        six frames take it to where it awaits one block, at 512
 --   loser-waits        one that lost CMD2 is passed over by CMD3: it stays in Ready, at its old address
 --   loser-reached      and takes the address of the round that it wins
 --   refused-unmade     the record that a refused make returns is not made
@@ -48,11 +48,11 @@ pub made-some : madeLent register register 0x00FF8000 [] erased .making ≡ Done
 unfolding madeOf passwordMade lockMadeOf registerRight lastByte crc7Of remainder divide bits entriesRight
 made-some = refl
 
--- CMD1 of the window, CMD2, CMD3 to address 1, CMD7 to it, CMD24 at 512
+-- CMD1 of the window, CMD2, CMD3 to address 1, CMD7 to it, CMD16 of 512, CMD24 at 512
 abbrev written : List Input
 written =
     map (given (Frame true false))
-    (commandFrame 1 0x00FF8000 ∷ commandFrame 2 0 ∷ commandFrame 3 0x00010000 ∷ commandFrame 7 0x00010000 ∷ commandFrame 24 512 ∷ [])
+    (commandFrame 1 0x00FF8000 ∷ commandFrame 2 0 ∷ commandFrame 3 0x00010000 ∷ commandFrame 7 0x00010000 ∷ commandFrame 16 512 ∷ commandFrame 24 512 ∷ [])
 
 pub reaches-one : runOf (begun register register 0x00FF8000 [] erased) written .card .link .state ≡ Rcv (One 512)
 unfolding runOf next madeOf passwordMade lockMadeOf holding poweredOf stored registerRight lastByte crc7Of remainder divide bits entriesRight commandFrame sealed framingOf fieldsOf freshLink frameStepped frameJudged heardOf commandOf rowOf transferRow moveOf classOf takenOf actedOf afterChecks answered responseOf resetTold wordOf judgedOf taggingOf argumentFault obeyed awaitedBy changeOf

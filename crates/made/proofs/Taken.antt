@@ -7,7 +7,6 @@
 use mathlib.Core.Path.{_≡_, refl}
 use mathlib.Core.Bool.{Bool, true, false}
 use Prim.Native.Nat.{ℕ}
-use borrow.Author.Tests.{le-leb}
 use lib.Dec.{eqb}
 use Rattle.base.proofs.Cases.{guarded, clash, never}
 use Rattle.command.proofs.Faults.{judged-drops}
@@ -27,8 +26,7 @@ use Rattle.tags.specs.Made.{MadeTags}
 use Rattle.tags.specs.Tagging.{noTags}
 use Rattle.tags.specs.declared.Tagging.{Tagging}
 use Rattle.tags.specs.declared.Tags.{Tags}
-use Rattle.wire.specs.Blocks.{longestBlock}
-use Rattle.made.proofs.Links.{at-waits}
+use Rattle.made.proofs.Links.{length-as, at-waits}
 use Rattle.made.specs.Leading.{Leading}
 use Rattle.made.specs.Made.{Waits, MadeLink}
 
@@ -118,4 +116,4 @@ module _ (c : Meeting) where
 
   -- a block length is read as it stands
   pub read-as : lengthRead (c .link .length) ≡ c .link .length
-  read-as = simp (le-leb 1 (c .link .length) (c .made .block .0), le-leb (c .link .length) longestBlock (c .made .block .1))
+  read-as = length-as (c .link .length) (c .made .block)

@@ -1,7 +1,8 @@
 -- Every way in which a command can go, as far as what is lent is concerned: one list, and each command is on it, whatever the record is. What an
 -- answer does to the error bits is no part of it: a second mode that answers in its own way shows `took` of its commands by `acted-took` and
 -- `answered-took`, as MMC mode does.
---   Took            stopped on the way; CMD0; obeyed, having passed the lock
+--   Took            stopped on the way; CMD0; obeyed, no error being found, with the block length that the command leaves
+--   unfaulted       a command without an error passed the lock, and its argument is right
 --   acted-took      what a taken command does is one of these, in any mode
 --   answered-took   and so it is with other error bits
 --   took            each command of MMC mode is one of these
@@ -17,7 +18,7 @@ use Rattle.base.proofs.Cases.{picked, clash}
 use Rattle.base.specs.Choice.{unless}
 use Rattle.command.specs.Answers.{answered}
 use Rattle.command.specs.Command.{receivedOf, takenOf, movedBy, commandOf}
-use Rattle.command.specs.Obey.{passesLock, taggingOf, judgedOf, changeOf, afterChecks, actedOf}
+use Rattle.command.specs.Obey.{passesLock, taggingOf, judgedOf, lengthAfter, obeyed as obeyedLink, changeOf, afterChecks, actedOf}
 use Rattle.command.specs.declared.Acted.{Acted}
 use Rattle.command.specs.declared.Change.{Change}
 use Rattle.command.specs.declared.Change.the-variants.{Nothing}
@@ -53,34 +54,36 @@ module _ (link : Link) (met : Met) (index argument : ℕ) where
   pub data Took : Link → Change → Type 0 where
     stopped : (tags : Tags) (errors : Errors) → Took (withErrors (withTags link tags) errors) Nothing
     reset : (errors : Errors) → index ≡ 0 → Took (withErrors freshLink errors) Nothing
-    obeyed : (next : Link) → passesLock (met .locked) index ≡ true → Took next (changeOf index argument)
+    obeyed : (next : Link) → next .length ≡ lengthAfter index argument (link .length)
+        → judgedOf link (met .groups) (met .locked) index argument .error ≡ None → Took next (changeOf index argument)
 
   -- ---- any mode
-  no-error : (t : Bool) (bit : ErrorBit) (rest : Tagging) → unless t (tagFailed bit) rest .error ≡ None → t ≡ true
-  no-error true bit rest e = refl
+  no-error : (t : Bool) (bit : ErrorBit) (rest : Tagging) → unless t (tagFailed bit) rest .error ≡ None → (t ≡ true) × (rest .error ≡ None)
+  no-error true bit rest e = (refl, e)
   no-error false bit rest e = clash cc
 
-  passes : judgedOf link (met .groups) (met .locked) index argument .error ≡ None → passesLock (met .locked) index ≡ true
+  pub unfaulted : judgedOf link (met .groups) (met .locked) index argument .error ≡ None
+      → (passesLock (met .locked) index ≡ true) × (taggingOf link (sizeOf (met .groups)) index argument .error ≡ None)
   unfolding judgedOf
-  passes e = no-error (passesLock (met .locked) index) (errorBit 24) (taggingOf link (sizeOf (met .groups)) index argument) e
+  unfaulted = no-error (passesLock (met .locked) index) (errorBit 24) (taggingOf link (sizeOf (met .groups)) index argument)
 
   abbrev Acting : Acted → Type 0
   Acting acted = Took (acted .link) (acted .change)
 
-  checked : (column : Column) (tags : Tags) (fault : Fault) → (fault ≡ None → passesLock (met .locked) index ≡ true)
+  checked : (column : Column) (tags : Tags) (fault : Fault) → judgedOf link (met .groups) (met .locked) index argument .error ≡ fault
       → Acting (afterChecks link index argument column tags fault)
-  unfolding afterChecks
-  checked column tags None p = obeyed _ (p refl)
-  checked column tags (Bit bit) p = stopped tags (link .errors)
+  unfolding afterChecks obeyedLink
+  checked column tags None e = obeyed _ refl e
+  checked column tags (Bit bit) e = stopped tags (link .errors)
 
   pub acted-took : (column : Column) → Acting (actedOf link met index argument column)
   unfolding actedOf freshLink
-  acted-took column = picked Acting (eqb index 0) (λ t. reset noErrors (eqb-true index 0 t)) (λ t. checked column _ _ passes)
+  acted-took column = picked Acting (eqb index 0) (λ t. reset noErrors (eqb-true index 0 t)) (λ t. checked column _ _ refl)
 
   pub answered-took : {next : Link} {change : Change} (errors : Errors) → Took next change → Took (withErrors next errors) change
   answered-took errors (stopped tags e) = stopped tags errors
   answered-took errors (reset e i) = reset errors i
-  answered-took errors (obeyed next p) = obeyed (withErrors next errors) p
+  answered-took errors (obeyed next l e) = obeyed (withErrors next errors) l e
 
   -- ---- MMC mode
   abbrev Commands : Commanded → Type 0
@@ -122,7 +125,7 @@ module _ (link : Link) (met : Met) (index argument : ℕ) where
   nothing : changeOf index argument ≡ Nothing → {next : Link} {change : Change} → Took next change → change ≡ Nothing
   nothing none (stopped tags errors) = refl
   nothing none (reset errors i) = refl
-  nothing none (obeyed next p) = none
+  nothing none (obeyed next l e) = none
 
   pub took-nothing : changeOf index argument ≡ Nothing → commandOf link met index argument .change ≡ Nothing
   took-nothing none = nothing none took

@@ -1,3 +1,5 @@
+pub mod BlockLength
+pub mod Heard
 pub mod Leading
 pub mod Made
 pub mod Run

@@ -8,6 +8,8 @@
 --   register-as-r2     CMD9 answered by the register itself
 --   high-answered      a command with the line high that is answered
 --   high-reset         CMD0 with the line high that resets a card in SPI
+--   enters-keeping-length, resets-keeping-length    CMD0 with the line low, at a card in MMC mode or in SPI, that leaves the block length
+--                      as it was
 --   low-answered       CMD13 with the line low at a card in MMC mode, answered as in SPI
 --   checks-kept        CRC checking that CMD0 leaves on
 --   checks-by-any-bit  CMD59 that reads another bit than bit 0
@@ -37,6 +39,8 @@ use Rattle.spi_answers.specs.Answers.{r1Of, secondOf, clearedR1, clearedR2}
 use Rattle.spi_moves.specs.Moves.{rowOf, moveOf}
 use Rattle.states.specs.declared.State.{State}
 use Rattle.states.specs.declared.State.the-variants.{Idle, Tran, Ina}
+use Rattle.status.specs.Status.{noErrors}
+use Rattle.tags.specs.Tagging.{noTags}
 use Rattle.spi.specs.Answers.{answeredIn, faulted}
 use Rattle.spi.specs.Hearing.{takenIn, spiHeard, heardOf, crcPasses, damagedOf}
 use Rattle.spi.specs.declared.Heard.{Heard}
@@ -87,6 +91,20 @@ high-answered e = clash cc
 high-reset : heard (inSpi false) false Tran false 0 0 .link .state ≡ Idle → ⊥
 unfolding heardOf spiHeard takenIn answeredIn faulted moveOf rowOf actedOf judgedOf taggingOf argumentFault afterChecks obeyed awaitedBy changeOf resetTold freshLink r1Of secondOf clearedR1 clearedR2
 high-reset e = clash cc
+
+-- CMD0 with the line low, at a card that was told to speak in blocks of 8 bytes
+abbrev resetFrom : Mode → Heard
+resetFrom mode =
+    heardOf mode true (record { state = Tran; address = 1; length = 8; errors = noErrors; tags = noTags })
+    (record { ocr = 0x00FF8000; groups = 1; locked = false; wins = true }) 0 0
+
+enters-keeping-length : resetFrom inMmc .link .length ≡ 8 → ⊥
+unfolding heardOf spiHeard takenIn answeredIn moveOf rowOf actedOf freshLink clearedR1
+enters-keeping-length e = omega arith
+
+resets-keeping-length : resetFrom (inSpi false) .link .length ≡ 8 → ⊥
+unfolding heardOf spiHeard takenIn answeredIn moveOf rowOf actedOf freshLink clearedR1
+resets-keeping-length e = omega arith
 
 low-answered : heard inMmc true Tran false 13 0x10000 .sent ≡ SpiR2 0 0 → ⊥
 unfolding heardOf spiHeard takenIn answeredIn faulted moveOf rowOf actedOf judgedOf taggingOf argumentFault afterChecks obeyed awaitedBy changeOf resetTold freshLink r1Of secondOf clearedR1 clearedR2 commandOf takenOf answered responseOf rowInMmc transferRow moveInMmc

@@ -3,13 +3,13 @@
 --   frame-change   what each frame changes is one of these
 --   read-in-mmc    a frame that a card in MMC mode hears as a command has the right CRC7
 -- Assumes nothing.
-use mathlib.Core.Path.{_≡_, refl, sym, ap, ap₂, _∙_, subst, subst⁻¹}
+use mathlib.Core.Path.{_≡_, refl, sym, ap, _∙_, subst, subst⁻¹}
 use mathlib.Core.Bool.{Bool, true, false, not, _&&_}
 use mathlib.Core.List.{List}
 use Prim.Native.Nat.{ℕ, _/_}
-use borrow.Author.Tests.{eqb-true, not-true}
+use borrow.Author.Tests.{eqb-true}
 use lib.Dec.{eqb}
-use Rattle.base.proofs.Cases.{cases, picked, first, last, never, opposite}
+use Rattle.base.proofs.Cases.{picked, never}
 use Rattle.base.specs.Choice.{pick}
 use Rattle.card.proofs.Outcomes.{FrameOutcome, unheard, damaged, commands, frame-outcome}
 use Rattle.card.specs.Frame.{FrameJudged, frameJudged}
@@ -18,19 +18,20 @@ use Rattle.command.specs.Obey.{passesLock, changeOf}
 use Rattle.command.specs.declared.Change.{Change}
 use Rattle.command.specs.declared.Change.the-variants.{Nothing, Protect, Erase}
 use Rattle.made.proofs.Faults.{unlocked}
-use Rattle.made.proofs.Took.{Took, stopped, reset, obeyed, heard-took}
+use Rattle.made.proofs.Heard.{heard-or-not}
+use Rattle.made.proofs.Took.{Took, stopped, reset, obeyed, unfaulted, heard-took}
+use Rattle.made.specs.Heard.{HeardAs}
 use Rattle.moves.specs.Classes.{classOf}
 use Rattle.card_record.specs.declared.Card.{Card}
 use Rattle.card_record.specs.declared.Link.{Link}
 use Rattle.card_record.specs.declared.Mode.{Mode}
-use Rattle.spi.proofs.Laws.{spi-high, damage-unchanged}
-use Rattle.spi.specs.Hearing.{heardOf, crcPasses}
+use Rattle.spi.proofs.Laws.{damage-unchanged}
+use Rattle.spi.specs.Hearing.{crcPasses}
 use Rattle.spi.specs.declared.Heard.{Heard}
 use Rattle.store.specs.Lent.{Seen}
 use Rattle.wire.specs.Frames.{checked, frameOf}
 use Rattle.wire.specs.declared.Frame.the-variants.{Command}
 use Rattle.wire.specs.declared.Framing.the-variants.{Framed}
-use Rattle.stored.specs.Changes.{HeardAs}
 
 -- ---- what changes in what is lent
 module _ (index argument : ℕ) where
@@ -76,33 +77,15 @@ module _ (card : Card) (wins selected : Bool) (frame : List ℕ) (seen : Seen) w
       → Took (card .link) (metBy card wins) index argument next change → FrameChange change
   by-command index argument e (stopped tags errors) = nothing
   by-command index argument e (reset errors i) = nothing
-  by-command index argument e (obeyed next p) = by-index index argument e p (changes index argument)
-
-  -- in SPI with the line high
-  module _ (index argument : ℕ) where
-    abbrev heard : Bool → Heard
-    heard line = heardOf (card .mode) line (card .link) (metBy card wins) index argument
-
-    unheard-changes : (card .mode .spi && not selected) ≡ true → heard selected .change ≡ Nothing
-    unheard-changes t =
-        ap (λ (line : Bool). heard line .change) (not-true selected (last (card .mode .spi) (not selected) t))
-        ∙ ap (λ (h : Heard). h .change)
-        (spi-high (card .mode) (card .link) (metBy card wins) index argument (first (card .mode .spi) (not selected) t))
-
-    line-low : (card .mode .spi && not selected) ≡ false → card .mode .spi ≡ true → selected ≡ true
-    line-low t here =
-        cases selected (λ (u : selected ≡ true). u)
-        (λ (u : selected ≡ false). opposite (card .mode .spi && not selected) (ap₂ (λ (h s : Bool). h && not s) here u) t)
+  by-command index argument e (obeyed next l right) =
+      by-index index argument e (unfaulted (card .link) (metBy card wins) index argument right .0) (changes index argument)
 
   by-frame : {judged : FrameJudged} → FrameOutcome card wins selected frame seen judged → FrameChange (judged .change)
   by-frame (unheard n listed) = nothing
   by-frame (damaged index argument e fails) = subst⁻¹ FrameChange (damage-unchanged (card .mode) selected (card .link)) nothing
   by-frame (commands index argument right e passes l) =
-      cases (card .mode .spi && not selected)
-      (λ (t : (card .mode .spi && not selected) ≡ true). subst⁻¹ FrameChange (unheard-changes index argument t) nothing)
-      (λ (t : (card .mode .spi && not selected) ≡ false).
-      by-command index argument (record { right = right; framing = e; crc = passes; low = line-low index argument t })
-      (heard-took (card .link) (metBy card wins) index argument (card .mode) selected))
+      heard-or-not card wins selected frame index argument right e passes (λ (h : Heard). FrameChange (h .change)) nothing
+      (λ hears. by-command index argument hears (heard-took (card .link) (metBy card wins) index argument (card .mode) selected))
 
   pub frame-change : FrameChange (frameJudged card wins selected frame seen .change)
   frame-change = by-frame (frame-outcome card wins selected frame seen)

@@ -1,4 +1,5 @@
 -- The theorems of this crate for made cards: what they suppose of a card holds of every card that was made.
+--   work                     what a made card in rcv awaits
 --   made-locked              a made card that is locked awaits no write
 --   made-awaiting            one that awaits a write is unlocked, and awaits it at an aligned address of 32 bits
 --   made-read-back, made-read-back-many    a block that a made card stored for CMD24, in either mode, or for CMD25, in MMC mode, is read back
@@ -35,7 +36,7 @@ use Rattle.stored.proofs.ReadBack.{read-back, read-back-many}
 
 module _ (card : Card) (made : Made card) where
   -- what a made card in rcv awaits
-  work : (incoming : Incoming) → card .link .state ≡ Rcv incoming → Awaits (card .registers .groups) (card .link .length) (card .lock .locked) incoming
+  pub work : (incoming : Incoming) → card .link .state ≡ Rcv incoming → Awaits (card .registers .groups) (card .link .length) (card .lock .locked) incoming
   work incoming on = subst (Waits (card .registers .groups) (card .link .length) (card .lock .locked)) on (made .link .work)
 
   -- "8,192 to 33,554,432 bytes"

@@ -1,5 +1,7 @@
+pub mod AfterReset
 pub mod Changes
 pub mod Commands
+pub mod Framed
 pub mod FromMade
 pub mod GoodBlocks
 pub mod Locked
@@ -7,6 +9,7 @@ pub mod LockedInUse
 pub mod Protected
 pub mod ReadBack
 pub mod Requests
+pub mod ResetInUse
 pub mod Runs
 pub mod Samples
 pub mod WrongAnswers

@@ -41,7 +41,7 @@ use Rattle.lock.specs.declared.Lock.{Lock}
 use Rattle.lock.specs.declared.Requested.{Requested}
 use Rattle.lock.proofs.Carried.{presented-parts}
 use Rattle.made.proofs.Kept.{KeepsLock, lock-kept}
-use Rattle.made.proofs.Took.{Took, stopped, reset, obeyed, heard-took}
+use Rattle.made.proofs.Took.{Took, stopped, reset, obeyed, unfaulted, heard-took}
 use Rattle.moves.specs.Classes.{classOf}
 use Rattle.card_record.specs.Power.{poweredOn}
 use Rattle.card_record.specs.Record.{csdProtects}
@@ -220,7 +220,8 @@ module _ (card : Card) (wins selected : Bool) (frame : List ℕ) (seen : Seen) (
     unfolding classOf
     took-held mode sent m (stopped tags errors) = record { state = refl; address = refl; length-kept = refl; mode = m; change = refl }
     took-held mode sent m (reset errors z) = opposite true refl (rw z at stops)
-    took-held mode sent m (obeyed next p) = opposite (passesLock true index) (rw locked at p) stops
+    took-held mode sent m (obeyed next l right) =
+        let p = unfaulted (card .link) (metBy card wins) index argument right .0 in opposite (passesLock true index) (rw locked at p) stops
 
     -- bit 23 is an error bit
     abbrev Damaged : Heard → Type 0

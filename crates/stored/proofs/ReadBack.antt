@@ -45,6 +45,7 @@ use Rattle.wire.specs.Blocks.{blockOf}
 use Rattle.wire.specs.Frames.{commandFrame}
 use Rattle.wire.proofs.FrameTheorems.{read-after-write}
 use Rattle.stored.specs.ReadBack.{commanded, blockIn, blockOut, readAgain, storedThenRead, storedStoppedThenRead, framedSector, Awaiting, ReadsBack}
+use Rattle.stored.proofs.Framed.{start-length}
 use Rattle.stored.proofs.Runs.{Leaves, heardAt, leaves-12, leaves-16, leaves-17}
 
 -- ---- the block in
@@ -69,10 +70,6 @@ module _ (card : Card) (block : List ℕ) (seen : Seen) (incoming : Incoming) (a
   stored-as (forces s a) d = no-write w (cc)
 
 -- ---- the run
-pub with-start-length : (spi : Bool) (block : List ℕ) → length block ≡ 514 → length (withStart spi block) ≡ framedSector spi
-with-start-length true block e = omega (arith, e)
-with-start-length false block e = e
-
 block-length : (payload : List ℕ) → length payload ≡ 512 → length (blockOf payload) ≡ 514
 unfolding blockOf
 block-length payload e = omega (arith, length-append payload (crc16 payload / 256 ∷ crc16 payload % 256 ∷ []))
@@ -136,7 +133,7 @@ module _ (spi : Bool) (groups : ℕ) (lent : Lent) (right : lendingOf (seen lent
       part-long = block-length part (length-take-le 512 (drop at (lent .memory)) (omega (arith, length-drop at (lent .memory))))
 
       framed-long : length (withStart spi (blockOf part)) ≡ framedSector spi
-      framed-long = with-start-length spi (blockOf part) part-long
+      framed-long = start-length spi (blockOf part) 512 part-long
 
       part-block : partBlock (lent .memory) at 512 ≡ blockOf part
       unfolding partBlock

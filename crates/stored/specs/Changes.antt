@@ -19,15 +19,13 @@ use Rattle.card_blocks.specs.declared.Storing.the-variants.{All}
 use Rattle.command.specs.declared.Change.the-variants.{Protect, Erase}
 use Rattle.card_record.specs.Record.{csdProtects}
 use Rattle.card_record.specs.declared.Card.{Card}
+use Rattle.made.specs.Heard.{HeardAs}
 use Rattle.states.specs.declared.Incoming.the-variants.{One, Many, LockRequest}
 use Rattle.states.specs.declared.State.the-variants.{Rcv}
 use Rattle.store.specs.Lent.{Lent, Seen}
 use Rattle.store.specs.Map.{protectedIn}
 use Rattle.tags.specs.Tags.{taggedOf}
 use Rattle.wire.specs.Blocks.{payloadOf}
-use Rattle.spi.specs.Hearing.{crcPasses}
-use Rattle.wire.specs.Frames.{framingOf}
-use Rattle.wire.specs.declared.Framing.the-variants.{Framed}
 
 -- "the rcv state says whether it awaits one block, many .., and from which address"
 abbrev pub AwaitsWrite : Card → ℕ → Type 0
@@ -43,14 +41,6 @@ ByteChanges card call input lent p = getD (lentAfter card call input lent .memor
 
 abbrev pub EntryChanges : Card → Call → List ℕ → Lent → ℕ → Type 0
 EntryChanges card call input lent group = getD (lentAfter card call input lent .map) group 0 ≡ getD (lent .map) group 0 → ⊥
-
--- a frame that a card hears as a command. In MMC mode its CRC7 is right, that is `frameOf frame ≡ Command index argument` (`read-in-mmc`); in
--- SPI "3 (CMD0 apart) .. come[s] only with CRC on", and "a frame with the line high is ignored"
-pub record HeardAs (card : Card) (selected : Bool) (frame : List ℕ) (index argument : ℕ) : Type 0 where
-  pub right : Bool
-  pub framing : framingOf frame ≡ Framed index argument right
-  pub crc : crcPasses (card .mode) index right ≡ true
-  pub low : card .mode .spi ≡ true → selected ≡ true
 
 -- the payload of a block in: in SPI it stands behind the start byte
 abbrev pub payloadAt : Card → List ℕ → List ℕ

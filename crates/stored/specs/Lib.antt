@@ -1,3 +1,4 @@
+pub mod AfterReset
 pub mod Changes
 pub mod Locked
 pub mod ReadBack
