@@ -75,6 +75,8 @@ void fill(u8 *bytes, usize length);
 enum work {
     CRC16,
     CRC7,
+    CRC7_15,
+    CRC7_4,
     READ_FRAME,
     WRITE_COMMAND,
     WRITE_BLOCK,

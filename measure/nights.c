@@ -60,7 +60,7 @@ static struct cost spent(const struct calls *calls, usize from, usize to)
 static long stacks[SETS];
 
 /* What is wanted at most of the instructions of plain C: of the first round of 30 distinct cards, and of every row. */
-static const double FIRST_ROUND = 1.6, EVERY_ROW = 2.3;
+static const double FIRST_ROUND = 1.6, EVERY_ROW = 2;
 
 static void row(const struct calls *sets, const struct night *night, usize from, usize to, double most)
 {

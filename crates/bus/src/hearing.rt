@@ -138,10 +138,10 @@ pub fn turn(
     ensures short { λ r. ⌜ r .heard .length ≤ 17 ⌝ }
 {
     let link = card.link;
-    let registers = card.registers;
     let given = command::follow(link, met_by(card, wins), index, argument, decided);
     let next = given.link;
     let sent = given.sent;
+    let registers = card.registers;
     Turned {
         card: Card { link: next, ..card },
         heard: hear(heard, registers, sent),

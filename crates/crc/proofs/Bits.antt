@@ -6,7 +6,7 @@
 --   onward-bitsOf, spelt-bitsOf, bitsOf-spelt, bitsOf-low   the bits of a number spell it
 --   bitsOf-append             the bits of a number are those of its high part and of its low part
 --   octets-bits, bits-octets, octets-below  bytes and their bits
---   onward-bits               the number that bytes spell
+--   onward-bits, word-spelt   the number that bytes spell, and of four of them
 --   bits-take, bits-drop      the bits of a part
 -- Assumes nothing.
 use mathlib.Core.Path.{_≡_, refl, sym, ap, ap₂, _∙_, subst}
@@ -154,6 +154,16 @@ octets-below (suc n) l e h =
 pub onward-bits : (s b : ℕ) (bs : List ℕ) → b < 256 → onward s (bits (b ∷ bs)) ≡ onward (s * 256 + b) (bits bs)
 unfolding bits
 onward-bits s b bs h = ap (λ (x : ℕ). onward x (bits bs)) (onward-bitsOf 8 s b ∙ ap (λ (r : ℕ). s * 256 + r) (mod-eq-of-lt h))
+
+pub word-spelt : (a b c d : ℕ) → a < 256 → b < 256 → c < 256 → d < 256
+    → spelt (bits (a ∷ b ∷ c ∷ d ∷ [])) ≡ a * 16777216 + b * 65536 + c * 256 + d
+unfolding bits
+word-spelt a b c d ha hb hc hd =
+    onward-bits 0 a (b ∷ c ∷ d ∷ []) ha
+    ∙ onward-bits (0 * 256 + a) b (c ∷ d ∷ []) hb
+    ∙ onward-bits ((0 * 256 + a) * 256 + b) c (d ∷ []) hc
+    ∙ onward-bits (((0 * 256 + a) * 256 + b) * 256 + c) d [] hd
+    ∙ omega arith
 
 bits-split : (k : ℕ) (bs : List ℕ) → bits bs ≡ bits (take k bs) ++ bits (drop k bs)
 bits-split k bs = ap bits (sym (take-append-drop k bs)) ∙ bits-append (take k bs) (drop k bs)

@@ -1,3 +1,4 @@
+pub mod Additive
 pub mod Bits
 pub mod Flips
 pub mod Fold
@@ -5,5 +6,6 @@ pub mod Linear
 pub mod Remainder
 pub mod Rule
 pub mod Steps
+pub mod Worked
 pub mod WrongAnswers
 pub mod Xor

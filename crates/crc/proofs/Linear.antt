@@ -1,14 +1,14 @@
--- Long division by a polynomial of degree n, 2 ^ n + p, is linear, so one byte more is one look-up in the table of the single bytes.
--- All laws are over the width n and serve both check sums.
+-- Long division by a polynomial of degree n, 2 ^ n + p, is linear, so the sum of one byte more comes of sums of single bytes. All laws are
+-- over the width n and serve both check sums.
 --   Sum           the sum of two lists of bits, bit by bit; sum-zeros, sum-append, sum-bitsOf, sum-left
 --   divide-append division goes on where it stopped
 --   divide-sum    division is linear
 --   divide-lt     what is left is below 2 ^ n; remainder-lt, check-lt
---   entry-sum     the table of the single bytes is linear
+--   byte-sum      the sum of a single byte is linear
 --   check-snoc    one byte more, in steps of the division
---   table-step    one byte more, by the table
+--   byte-step     one byte more, by the sum of a single byte
 -- Assumes nothing.
-use mathlib.Core.Path.{_≡_, refl, sym, ap, ap₂, _∙_, subst, subst⁻¹}
+use mathlib.Core.Path.{_≡_, refl, sym, ap, ap₂, _∙_, subst⁻¹}
 use mathlib.Core.Bool.{Bool}
 use mathlib.Core.List.{List, [], _∷_, _++_, append-assoc, append-nil}
 use Prim.Native.Nat.{ℕ, zero, suc, _+_, _*_, _/_, _%_, _^_, _<_}
@@ -156,13 +156,13 @@ module _ (n p : ℕ) (hp : p < 2 ^ n) where
   unfolding checkSum remainder bits
   one-byte b = ap (λ (l : List ℕ). divide n G 0 (l ++ replicate n 0)) (append-nil (bitsOf 8 b))
 
-  pub entry-sum : (x y : ℕ) → checkSum n G (bitXor x y ∷ []) ≡ bitXor (checkSum n G (x ∷ [])) (checkSum n G (y ∷ []))
-  entry-sum x y =
+  pub byte-sum : (x y : ℕ) → checkSum n G (bitXor x y ∷ []) ≡ bitXor (checkSum n G (x ∷ [])) (checkSum n G (y ∷ []))
+  byte-sum x y =
       one-byte (bitXor x y)
       ∙ divide-sum (sum-append (sum-bitsOf 8 x y) (sum-zeros n)) 0 0 (pow-pos n) (pow-pos n)
       ∙ sym (ap₂ bitXor (one-byte x) (one-byte y))
 
-  -- eight steps of the rest so far, plus the byte's own entry
+  -- eight steps of the rest so far, plus the byte's own sum
   pub check-snoc : (bs : List ℕ) (b : ℕ)
       → checkSum n G (bs ++ (b ∷ [])) ≡ bitXor (divide n G (checkSum n G bs) (replicate 8 0)) (checkSum n G (b ∷ []))
   unfolding checkSum remainder bits
@@ -181,13 +181,13 @@ module _ (n p : ℕ) (hp : p < 2 ^ n) where
       ∙ ap (λ (x : ℕ). divide n G x (replicate 8 0)) (sym (divide-append (bits bs) z 0)))
       (sym (one-byte b))
 
-  -- for any split of the rest so far: its eight steps are an entry of the table and what is left
-  pub table-step : (bs : List ℕ) (b i w : ℕ) → divide n G (checkSum n G bs) (replicate 8 0) ≡ bitXor (checkSum n G (i ∷ [])) w
+  -- for any split of the rest so far: its eight steps are the sum of a single byte and what is left
+  pub byte-step : (bs : List ℕ) (b i w : ℕ) → divide n G (checkSum n G bs) (replicate 8 0) ≡ bitXor (checkSum n G (i ∷ [])) w
       → checkSum n G (bs ++ (b ∷ [])) ≡ bitXor (checkSum n G (bitXor i b ∷ [])) w
-  table-step bs b i w e =
+  byte-step bs b i w e =
       check-snoc bs b
       ∙ ap (λ (x : ℕ). bitXor x (checkSum n G (b ∷ []))) e
       ∙ xor-assoc (checkSum n G (i ∷ [])) w (checkSum n G (b ∷ []))
       ∙ ap (bitXor (checkSum n G (i ∷ []))) (xor-comm w (checkSum n G (b ∷ [])))
       ∙ sym (xor-assoc (checkSum n G (i ∷ [])) (checkSum n G (b ∷ [])) w)
-      ∙ ap (λ (x : ℕ). bitXor x w) (sym (entry-sum i b))
+      ∙ ap (λ (x : ℕ). bitXor x w) (sym (byte-sum i b))

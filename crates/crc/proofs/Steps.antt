@@ -1,7 +1,7 @@
 -- One byte more, for each of the two check sums, from the one law of Linear. What is special to a width is a test over its
 -- small numbers, which antt computes.
 --   crc7-lt, crc16-lt       the sums have 7 and 16 bits
---   crc7-step, crc16-step   the sum of one byte more, by the table of the single bytes
+--   crc7-step, crc16-step   the sum of one byte more, by the sum of a single byte
 -- Assumes nothing.
 use mathlib.Core.Path.{_≡_, sym, ap, ap₂, _∙_}
 use mathlib.Core.List.{List, [], _∷_, _++_}
@@ -14,7 +14,7 @@ use lib.Bits.{bitXor, xor-zero-r, xor-shifted}
 use Rattle.base.proofs.Span.{below, passes}
 use Rattle.crc.specs.Bits.{bitsOf, bits}
 use Rattle.crc.specs.Crc.{divide, remainder, checkSum, generator7, generator16, crc7, crc16}
-use Rattle.crc.proofs.Linear.{sum-zeros, divide-sum, divide-append, check-lt, one-byte, table-step}
+use Rattle.crc.proofs.Linear.{sum-zeros, divide-sum, divide-append, check-lt, one-byte, byte-step}
 
 -- two functions that a computed test finds equal below m are equal there
 agree : (f g : ℕ → ℕ) (m : ℕ) → T (passes (λ x. eqb (f x) (g x)) 0 m) → (c : ℕ) → c < m → f c ≡ g c
@@ -39,7 +39,7 @@ pub crc7-step : (bs : List ℕ) (b : ℕ) → crc7 (bs ++ (b ∷ [])) ≡ crc7 (
 unfolding crc7
 crc7-step bs b =
     let c : ℕ = checkSum 7 generator7 bs in
-    table-step 7 low7 p7 bs b (c * 2) 0 (eight7 c (check-lt 7 low7 p7 bs) ∙ sym (xor-zero-r (checkSum 7 generator7 (c * 2 ∷ []))))
+    byte-step 7 low7 p7 bs b (c * 2) 0 (eight7 c (check-lt 7 low7 p7 bs) ∙ sym (xor-zero-r (checkSum 7 generator7 (c * 2 ∷ []))))
     ∙ xor-zero-r (checkSum 7 generator7 (bitXor (c * 2) b ∷ []))
 
 -- ---- width 16: the divisor is 2 ^ 16 + low16
@@ -84,4 +84,4 @@ pub crc16-step : (bs : List ℕ) (b : ℕ)
 unfolding crc16
 crc16-step bs b =
     let c : ℕ = checkSum 16 generator16 bs in
-    table-step 16 low16 p16 bs b (c / 256) (c % 256 * 256) (eight16 c (check-lt 16 low16 p16 bs))
+    byte-step 16 low16 p16 bs b (c / 256) (c % 256 * 256) (eight16 c (check-lt 16 low16 p16 bs))

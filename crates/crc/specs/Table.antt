@@ -1,4 +1,4 @@
--- Document 01: "entry b is the remainder of b times x^16", and so for x^7.
+-- Document 01: "entry b is the remainder of b times x^16".
 -- Assumes nothing.
 use mathlib.Core.Path.{_≡_}
 use mathlib.Core.List.{List, [], _∷_}

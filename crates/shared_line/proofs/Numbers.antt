@@ -1,16 +1,17 @@
 -- Registers as numbers, byte by byte.
 --   number-less   the first byte in which two registers differ decides
 --   number-same   registers with the same bytes have the same number
+--   number-bytes  registers with the same number have the same bytes
 -- Assumes nothing.
-use mathlib.Core.Path.{_≡_, sym, ap, _∙_, subst}
+use mathlib.Core.Path.{_≡_, sym, ap, ap₂, _∙_, subst}
 use mathlib.Core.List.{List, [], _∷_}
 use Prim.Native.Nat.{ℕ, zero, suc, _+_, _*_, _^_, _<_}
 use native.Mathlib.Nat.{suc-mul, mul-le-mul-right}
 use native.Mathlib.Omega.{arith}
 use lib.ListN.{length, getD}
 use lib.Seq.{ext-getD}
-use Rattle.crc.proofs.Bits.{onward-is, onward-bits, spelt-lt, bits-below, length-bits}
-use Rattle.crc.specs.Bits.{bits, onward, spelt, Below}
+use Rattle.crc.proofs.Bits.{onward-is, onward-bits, spelt-lt, bits-below, length-bits, bitsOf-spelt, octets-bits}
+use Rattle.crc.specs.Bits.{bitsOf, bits, onward, spelt, octets, Below}
 use Rattle.shared_line.specs.Lowest.{cidNumber}
 
 -- a smaller number in front, and as many bits behind it
@@ -41,3 +42,12 @@ number-less k a b = onward-first k 0 a b
 
 pub number-same : (a b : List ℕ) → length a ≡ length b → ((j : ℕ) → j < length a → getD a j 0 ≡ getD b j 0) → cidNumber a ≡ cidNumber b
 number-same a b e same = ap cidNumber (ext-getD 0 a b e same)
+
+pub number-bytes : (a b : List ℕ) → length a ≡ length b → Below 256 a → Below 256 b → cidNumber a ≡ cidNumber b → a ≡ b
+unfolding cidNumber
+number-bytes a b n wa wb e =
+    let long : length (bits a) ≡ length (bits b) = length-bits a ∙ ap (λ (k : ℕ). k * 8) n ∙ sym (length-bits b) in
+    let sent : bits a ≡ bits b =
+    sym (bitsOf-spelt (bits a) (bits-below a)) ∙ ap₂ bitsOf long e ∙ bitsOf-spelt (bits b) (bits-below b)
+    in
+    sym (octets-bits a wa) ∙ ap₂ octets n sent ∙ octets-bits b wb

@@ -2,7 +2,7 @@
 --   order-..   the three answers of a comparison
 --   by-order   the three cases of one
 --   lower-none, lower-by     whether one more is smaller than what was found, as code tells the cases apart
---   low-none, low-by         whether it is what was found, in the same way
+--   low-none, low-same       whether it is what was found
 -- Assumes nothing.
 use mathlib.Core.Path.{_≡_, sym, _∙_}
 use mathlib.Core.Bool.{true, false, not}
@@ -62,7 +62,11 @@ module _ (low : Low) (cid : List ℕ) where
   unfolding isLow
   low-none a = let any = not-true (low .any) a in rw any
 
-  pub low-by : not (low .any) ≡ false → (order is : Order) → order ≡ orderOf cid (low .cid) → order ≡ is
-      → byOrder is false true false ≡ isLow low cid
+  pub low-same : not (low .any) ≡ false → eqb (cidNumber cid) (cidNumber (low .cid)) ≡ isLow low cid
   unfolding isLow
-  low-by a order is o e = let any = not-false (low .any) a in let by = sym o ∙ e in rw (any, by)
+  low-same a =
+      let any = not-false (low .any) a in
+      let x : ℕ = cidNumber cid in
+      let y : ℕ = cidNumber (low .cid) in
+      by-order cid (low .cid) (λ h by. rw (any, by) (ne-eqb x y (λ e. omega arith))) (λ h by. rw (any, by) (eq-eqb x y h))
+      (λ h by. rw (any, by) (ne-eqb x y (λ e. omega arith)))

@@ -5,8 +5,9 @@
 // Offers: `Low`, `nobody`, `is_lower`, `is_low`; `and`.
 use base::least;
 ghost use mathlib.Core.Path.{_≡_};
+ghost use lib.Dec.{eqb};
 ghost use Rattle.shared_line.specs.Bytes.{anded};
-ghost use Rattle.shared_line.specs.Lowest.{orderOf, noLow, isLower, isLow};
+ghost use Rattle.shared_line.specs.Lowest.{cidNumber, orderOf, noLow, isLower, isLow};
 
 // The smallest CID among those that were sent, if any was.
 pub struct Low {
@@ -36,6 +37,22 @@ fn compare(a: [u8; 16], b: [u8; 16]) -> Order
         i += 1;
     }
     Order::Same
+}
+
+// Whether two CIDs are the same. No byte ends the loop, so that the compiler can take all of them at
+// once.
+fn same(a: [u8; 16], b: [u8; 16]) -> bool
+    ensures { λ r. ⌜ r ≡ eqb (cidNumber a) (cidNumber b) ⌝ }
+{
+    let mut same = true;
+    let mut i: usize = 0;
+    while i < 16 {
+        if a[i] != b[i] {
+            same = false;
+        }
+        i += 1;
+    }
+    same
 }
 
 // No CID yet.
@@ -72,12 +89,7 @@ pub fn is_low(low: Low, cid: [u8; 16]) -> bool
         return false;
     }
     let least = low.cid;
-    let order = compare(cid, least);
-    match order {
-        Order::Smaller => false,
-        Order::Same => true,
-        Order::Larger => false,
-    }
+    same(cid, least)
 }
 
 // What the line held, ANDed with a frame.

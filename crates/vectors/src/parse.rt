@@ -214,11 +214,6 @@ pub enum Number32 {
     None,
 }
 
-// The 32 bits of four bytes, highest first.
-fn join(a: u8, b: u8, c: u8, d: u8) -> u32 {
-    (a as u32) * 16777216 + (b as u32) * 65536 + (c as u32) * 256 + (d as u32)
-}
-
 // The number of a word of eight hex digits.
 pub fn word_of(word: &[u8]) -> Number32 {
     if word.len() != 8 {
@@ -228,5 +223,5 @@ pub fn word_of(word: &[u8]) -> Number32 {
     let Number::Is(_) = pairs(word, &mut four, 0) else {
         return Number32::None;
     };
-    Number32::Is(join(four[0], four[1], four[2], four[3]))
+    Number32::Is(crc::word(four[0], four[1], four[2], four[3]))
 }

@@ -4,7 +4,6 @@
 --   sealed-bits   bytes closed by that byte are their bits closed by CRC7 and a 1
 --   first-bits    the bits of a frame's first byte: 0, the transmission bit, the index
 --   word-bits     the bits of a 32-bit number, by its four bytes
---   word-spelt    the number that four bytes spell
 --   frame-bytes   a frame of 48 bits, by its six bytes
 --   framing-is    a frame's fields, by its six bytes; framing-good, where the framing bits are right
 --   r3-bytes      an R3, by its six bytes
@@ -21,7 +20,7 @@ use Rattle.base.specs.Choice.{unless}
 use Rattle.base.specs.Refusals.{by}
 use Rattle.crc.specs.Bits.{bitsOf, bits, spelt, octets}
 use Rattle.crc.specs.Crc.{checkSum, crc7}
-use Rattle.crc.proofs.Bits.{bits-append, bitsOf-append, bitsOf-low, bitsOf-spelt, onward-bits, bitsOf-below, below-append, octets-bits, spelt-bitsOf}
+use Rattle.crc.proofs.Bits.{bits-append, bitsOf-append, bitsOf-low, bitsOf-spelt, bitsOf-below, below-append, octets-bits, spelt-bitsOf}
 use Rattle.crc.proofs.Steps.{crc7-lt}
 use Rattle.wire.specs.Frames.{crc7Of, sealed, field, fieldsOf, framingOf}
 use Rattle.wire.specs.Responses.{lastByte, r3Frame}
@@ -129,19 +128,6 @@ pub framing-good : (f : List ℕ) → length f ≡ 6 → ((k : ℕ) → getD f k
     ≡ meaning f (spelt (bits (getD f 1 0 ∷ getD f 2 0 ∷ getD f 3 0 ∷ getD f 4 0 ∷ [])))
     (crc7 (getD f 0 0 ∷ getD f 1 0 ∷ getD f 2 0 ∷ getD f 3 0 ∷ getD f 4 0 ∷ []))
 framing-good f n h e0 e1 e5 = framing-is f n h ∙ good (getD f 0 0) (getD f 5 0) _ e0 e1 e5
-
-pub five-bytes : (f : List ℕ) → length f ≡ 6 → take 5 f ≡ getD f 0 0 ∷ getD f 1 0 ∷ getD f 2 0 ∷ getD f 3 0 ∷ getD f 4 0 ∷ []
-five-bytes f e = ap (take 5) (six-bytes f e)
-
-pub word-spelt : (a b c d : ℕ) → a < 256 → b < 256 → c < 256 → d < 256
-    → spelt (bits (a ∷ b ∷ c ∷ d ∷ [])) ≡ a * 16777216 + b * 65536 + c * 256 + d
-unfolding bits
-word-spelt a b c d ha hb hc hd =
-    onward-bits 0 a (b ∷ c ∷ d ∷ []) ha
-    ∙ onward-bits (0 * 256 + a) b (c ∷ d ∷ []) hb
-    ∙ onward-bits ((0 * 256 + a) * 256 + b) c (d ∷ []) hc
-    ∙ onward-bits (((0 * 256 + a) * 256 + b) * 256 + c) d [] hd
-    ∙ omega arith
 
 abbrev pub r3Bytes : ℕ → List ℕ
 r3Bytes x = 0x3F ∷ (128 + x / 16777216 % 128) ∷ x / 65536 % 256 ∷ x / 256 % 256 ∷ x % 256 ∷ 0xFF ∷ []

@@ -8,11 +8,11 @@ use base::Refusal;
 use base::Written;
 use base::copy;
 ghost use mathlib.Core.Path.{_≡_};
-ghost use mathlib.Core.List.{[], _∷_, _++_};
+ghost use mathlib.Core.List.{_++_};
 ghost use Prim.Native.Nat.{_+_, _*_, _≤_};
 ghost use lib.ListN.{length, drop};
 ghost use Rattle.base.specs.Output.{fits, laid};
-ghost use Rattle.crc.specs.Bits.{bitsOf, bits, spelt, octets};
+ghost use Rattle.crc.specs.Bits.{bitsOf, octets};
 ghost use Rattle.wire.specs.Blocks.{blockOf, blockWritten, checkedOf};
 ghost use Rattle.wire.specs.Frames.{sealed, commandFrame, indexed, framingOf, frameOf};
 ghost use Rattle.wire.specs.Responses.{r1Frame, r2Frame, r3Frame, lastByte, registerRight};
@@ -59,13 +59,6 @@ pub enum Checked {
     Refused(Refusal),
 }
 
-// The 32 bits of four bytes, highest first.
-fn word(a: u8, b: u8, c: u8, d: u8) -> u32
-    ensures { λ r. ⌜ r ≡ spelt (bits (a ∷ b ∷ c ∷ d ∷ [])) ⌝ }
-{
-    (a as u32) * 16777216 + (b as u32) * 65536 + (c as u32) * 256 + (d as u32)
-}
-
 // A frame's length and framing bits tested (1, 2), each bit for itself, with its CRC7 looked at and
 // not yet judged: whoever takes commands with the CRC off starts here.
 pub fn unframe(frame: &[u8]) -> Framing
@@ -85,10 +78,11 @@ pub fn unframe(frame: &[u8]) -> Framing
     if last % 2 != 1 {
         return Framing::Unframed(Refusal::FrameBits);
     }
-    let sum = crc::crc7(&frame[0..5]);
+    let argument = crc::word(frame[1], frame[2], frame[3], frame[4]);
+    let sum = crc::crc7_frame(first, argument);
     Framing::Framed {
         index: first % 64,
-        argument: word(frame[1], frame[2], frame[3], frame[4]),
+        argument,
         crc_right: last / 2 == sum,
     }
 }
@@ -114,7 +108,7 @@ pub fn read_frame(frame: &[u8]) -> Frame
     }
 }
 
-// The byte that closes a frame, a CID or a CSD: the CRC7 of the bytes before it, and a 1.
+// The byte that closes a CID or a CSD, and any bytes so: the CRC7 of those before it, and a 1.
 pub fn last_byte(body: &[u8]) -> u8
     ensures answer { λ r. ⌜ r ≡ lastByte (now (body .entry)) ⌝ }
 {
@@ -140,8 +134,8 @@ fn put48(first: u8, word: u32, out: &mut [u8])
     out[2] = (word / 65536 % 256) as u8;
     out[3] = (word / 256 % 256) as u8;
     out[4] = (word % 256) as u8;
-    let last = last_byte(&out[0..5]);
-    out[5] = last;
+    let sum = crc::crc7_frame(first, word);
+    out[5] = sum * 2 + 1;
 }
 
 // A command frame written: 4, 6.

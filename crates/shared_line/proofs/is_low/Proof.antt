@@ -1,8 +1,8 @@
--- `shared_line::is_low` meets its contract: a test, and a comparison.
+-- `shared_line::is_low` meets its contract: a test, and whether the two are the same.
 -- Assumes nothing.
+use mathlib.Core.Path.{_∙_}
 use borrow.Author.Needs.{needs}
-use Rattle.shared_line.proofs.Orders.{low-none, low-by}
-use Rattle.shared_line.specs.declared.Order.the-variants.{Smaller, Same, Larger}
+use Rattle.shared_line.proofs.Orders.{low-none, low-same}
 use Rattle.shared_line.proofs.is_low.Statement.{statement}
 use Rattle.shared_line.proofs.is_low.Tie as tie
 
@@ -11,34 +11,9 @@ returns c = let a = c .before .before .args in low-none (a .low) (a .cid) (c .if
 
 returns-2 : tie.Need-returns-2
 returns-2 c =
-    let m = c .before .before in
-    let e = m .before .before in
+    let e = c .before .before in
     let a = e .before .before .args in
-    low-by (a .low) (a .cid) (e .if1 .left) _ Smaller (m .compare .ensures) (c .enum-told .given .1)
-
-returns-3 : tie.Need-returns-3
-returns-3 c =
-    let m = c .before .before in
-    let e = m .before .before in
-    let a = e .before .before .args in
-    low-by (a .low) (a .cid) (e .if1 .left) _ Same (m .compare .ensures) (c .enum-told2 .given .1)
-
-returns-4 : tie.Need-returns-4
-returns-4 c =
-    let m = c .before .before in
-    let e = m .before .before in
-    let a = e .before .before .args in
-    low-by (a .low) (a .cid) (e .if1 .left) _ Larger (m .compare .ensures) (c .enum-told3 .given .1)
+    c .same .ensures ∙ low-same (a .low) (a .cid) (e .if1 .left)
 
 pub is-low-spec : {M : Type 1} → statement M
-is-low-spec =
-    tie.close
-    (tie.spec
-    returns
-    (λ c κs. search needs)
-    (λ c. search needs)
-    (λ c. search needs)
-    (λ c. search needs)
-    returns-2
-    returns-3
-    returns-4)
+is-low-spec = tie.close (tie.spec returns (λ c κs. search needs) returns-2)

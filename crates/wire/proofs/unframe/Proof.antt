@@ -2,13 +2,18 @@
 -- a frame's six bytes.
 -- Assumes nothing.
 use mathlib.Core.Path.{sym, ap, ap₂, _∙_}
+use mathlib.Core.List.{_++_}
+use Prim.Native.Nat.{ℕ}
 use borrow.Author.Needs.{needs}
 use borrow.Author.Tests.{eq-eqb, ne-eqb}
 use denote.Ref.{now}
+use lib.ListN.{getD}
 use Rattle.base.proofs.Branch.{tests}
-use Rattle.crc.specs.Crc.{crc7}
+use Rattle.crc.specs.Bits.{bitsOf}
+use Rattle.crc.specs.Crc.{remainder, generator7}
+use Rattle.crc.proofs.Worked.{five}
 use Rattle.wire.specs.Frames.{framingOf}
-use Rattle.wire.proofs.InBytes.{framing-is, framing-good, meaning, five-bytes}
+use Rattle.wire.proofs.InBytes.{framing-is, framing-good, meaning}
 use Rattle.wire.proofs.unframe.Statement.{statement}
 use Rattle.wire.proofs.unframe.Tie as tie
 
@@ -38,13 +43,16 @@ returns-4 c =
 
 returns-5 : tie.Need-returns-5
 returns-5 c =
-    let g = c .before .before .before .before .before in
-    let e = g .before .before in
+    let e = c .before .before .before .before .before .before in
     let d = e .before .before in
     let s = d .before .before .before .before in
     let f = now (s .before .args .frame) in
     let n = d .before .before .before .if1 .left in
-    ap₂ (meaning f) (c .word .ensures) (g .crc7 .ensures ∙ ap crc7 (five-bytes f n))
+    let w = c .before .word in
+    ap₂ (meaning f) (w .ensures)
+    (c .crc7-frame .ensures
+    ∙ ap (λ (x : ℕ). remainder 7 generator7 (bitsOf 8 (getD f 0 0) ++ bitsOf 32 x)) (w .ensures)
+    ∙ five (getD f 0 0) (getD f 1 0) (getD f 2 0) (getD f 3 0) (getD f 4 0))
     ∙ sym (framing-good f n (λ k. s .shared-slice-known .given k .fits) (d .if2 .left) (e .before .if3 .left) (e .if4 .left))
 
 pub unframe-spec : {M : Type 1} → statement M
@@ -60,10 +68,7 @@ unframe-spec =
     (λ c. search needs)
     (λ c. search needs)
     (λ c. search needs)
+    (λ c. search needs)
     (λ c κs. search needs)
-    (λ c. search needs)
-    (λ c. search needs)
-    (λ c. search needs)
-    (λ c. search needs)
     (λ c κs. search needs)
     returns-5)

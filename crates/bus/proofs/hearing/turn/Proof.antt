@@ -34,17 +34,17 @@ carried card wins index argument met decided given em ed e =
 
 told : (c : tie.After-follow)
     → c .follow .result
-    ≡ commandOn (c .before .before .before .before .args .card) (c .before .before .before .before .args .wins)
-    (c .before .before .before .before .args .index) (c .before .before .before .before .args .argument)
+    ≡ commandOn (c .before .before .before .args .card) (c .before .before .before .args .wins) (c .before .before .before .args .index)
+    (c .before .before .before .args .argument)
 told c =
-    let s = c .before .before .before .before in
+    let s = c .before .before .before in
     let a = s .args in
     carried (a .card) (a .wins) (a .index) (a .argument) _ (a .decided) _ (c .before .met-by .ensures) (s .pre .2) (c .follow .ensures)
 
 hear-requires : tie.Need-hear-requires
 hear-requires c κs =
-    let t = c .before .before .before .before in
-    let s = t .before .before .before .before in
+    let t = c .before .before .before .before .before in
+    let s = t .before .before .before in
     let a = s .args in (
       s .pre .0,
       subst (λ (given : Commanded). Sendable (given .sent)) (sym (told t)) (taken-sends (a .card) (a .wins) (a .index) (a .argument) (s .pre .1)),
@@ -53,8 +53,8 @@ hear-requires c κs =
 returns : tie.Need-returns
 unfolding turnOf
 returns c =
-    let t = c .before .before .before .before .before in
-    let a = t .before .before .before .before .args in (
+    let t = c .before .before .before .before .before .before in
+    let a = t .before .before .before .args in (
       ap₂ turned (ap (λ (g : Commanded). withLink (a .card) (g .link)) (told t))
           (c .hear .ensures .0 ∙ ap (λ (g : Commanded). heardOf (a .heard) (sentBytes (a .card .registers) (g .sent))) (told t)),
       c .hear .ensures .1,

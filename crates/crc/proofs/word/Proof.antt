@@ -1,10 +1,10 @@
--- `wire::word` meets its contract: the law of four bytes.
+-- `crc::word` meets its contract: the law of four bytes.
 -- Assumes nothing.
 use mathlib.Core.Path.{sym}
 use borrow.Author.Needs.{needs}
-use Rattle.wire.proofs.InBytes.{word-spelt}
-use Rattle.wire.proofs.word.Statement.{statement}
-use Rattle.wire.proofs.word.Tie as tie
+use Rattle.crc.proofs.Bits.{word-spelt}
+use Rattle.crc.proofs.word.Statement.{statement}
+use Rattle.crc.proofs.word.Tie as tie
 
 returns : tie.Need-returns
 returns c =
