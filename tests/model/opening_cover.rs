@@ -3,7 +3,7 @@
 use crate::card::*;
 use crate::card_cover::refusal;
 use crate::cover::{Cover, Seen};
-use crate::reset_cover::heard;
+use crate::reset_cover::{heard, sets};
 use crate::script::Record;
 use crate::wire::Command;
 
@@ -30,8 +30,8 @@ impl Cover {
     /// Notes what happens to a locked card and its block length; then whether that is one that was set while it was locked.
     pub fn watch_opening(&mut self, seen: &Seen) {
         let heard = heard(seen);
-        let happened = match (seen.before.state, heard) {
-            (State::Tran, Some(Command { index: 16, argument })) if seen.before.locked => Some(asked(argument)),
+        let happened = match heard {
+            Some(Command { index: 16, argument }) if seen.before.locked => asked(argument, seen),
             _ if self.set_while_locked => done(seen, heard),
             _ => None,
         };
@@ -41,18 +41,20 @@ impl Cover {
         }
         self.set_while_locked = match (seen.record, heard) {
             (Record::PowerOn, _) | (_, Some(Command { index: 0, .. })) => false,
-            (_, Some(Command { index: 16, argument })) if seen.before.state == State::Tran && asked(argument) == HAPPENS[0] => seen.before.locked,
+            (_, Some(Command { index: 16, argument })) if sets(argument, seen) => seen.before.locked,
             _ => self.set_while_locked,
         };
     }
 }
 
-/// "CMD16: length 1 to 2,048"
-fn asked(length: u32) -> &'static str {
-    match length {
-        0 => "CMD16 of 0",
-        1..=2_048 => "CMD16 taken",
-        _ => "CMD16 over 2,048",
+/// What became of a locked card's CMD16, in tran: "length 1 to 2,048".
+fn asked(argument: u32, seen: &Seen) -> Option<&'static str> {
+    match argument {
+        _ if seen.before.state != State::Tran => None,
+        _ if sets(argument, seen) => Some("CMD16 taken"),
+        0 => Some("CMD16 of 0"),
+        2_049.. => Some("CMD16 over 2,048"),
+        _ => None,
     }
 }
 

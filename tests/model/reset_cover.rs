@@ -50,7 +50,7 @@ pub fn heard(seen: &Seen) -> Option<Command> {
 }
 
 /// Whether a CMD16 of this argument is taken without an error.
-fn sets(argument: u32, seen: &Seen) -> bool {
+pub fn sets(argument: u32, seen: &Seen) -> bool {
     seen.before.state == State::Tran && seen.after.block_length == argument as u64
 }
 
