@@ -32,6 +32,7 @@ static const struct at_card WORK[WORKS - CARD_FIRST] = {
     {"CMD7 in stby", FRAME, CARD(STBY, 512, 2, .at = 0), OWN, 7, TRAN, 6, 0},
     {"CMD9 in stby", FRAME, CARD(STBY, 512, 2, .at = 0), OWN, 9, STBY, 17, 0},
     {"CMD16", FRAME, CARD(TRAN, 512, 2, .at = 0), 2048, 16, TRAN, 6, 0},
+    {"CMD16, locked", FRAME, CARD(TRAN, 2048, 2, .locked = 1), 18, 16, TRAN, 6, 0},
     {"CMD17", FRAME, CARD(TRAN, 512, 2, .at = 0), 512, 17, DATA_ONE, 6, 0},
     {"CMD24", FRAME, CARD(TRAN, 512, 2, .at = 0), 512, 24, RCV_ONE, 6, 0},
     {"CMD28", FRAME, CARD(TRAN, 512, 2, .at = 0), 8192, 28, PRG, 6, 0},

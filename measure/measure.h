@@ -98,6 +98,7 @@ enum work {
     CMD7,
     CMD9,
     CMD16,
+    CMD16_LOCKED,
     CMD17,
     CMD24,
     CMD28,

@@ -102,7 +102,7 @@ static usize transfer(struct mmc_numbers *card, const u8 *csd, u8 index, u32 arg
     u32 error = 0, next = TRAN, at = argument, tags = card->tags, spared = 0;
     if (index < 32 || index > 38)
         drop_tags(card);
-    if (card->locked && index != 42) {
+    if (card->locked && index != 16 && index != 42) {
         card->tags = NO_TAGS;
         card->errors |= LOCK_UNLOCK_FAILED;
         return answer_transfer(card, index, out);

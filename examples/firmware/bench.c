@@ -1,6 +1,6 @@
 /* A bench tester that has only SPI pins, as its C firmware would have it: it brings a card into SPI, reads its CSD, sets the block length, writes
-   a block and reads it back, asks how the write went, and switches the checking of CRCs on. Each exchange is told in plain words and checked;
-   the program ends with 1 if one is not as expected. */
+   a block and reads it back, asks how the write went, and switches the checking of CRCs on; it locks the card, and a handheld opens it with a
+   short block. Each exchange is told in plain words and checked; the program ends with 1 if one is not as expected. */
 #include "mmc.h"
 
 /* The kit has no headers: what is taken from the C library is declared here. */
@@ -136,14 +136,14 @@ static void read_csd(const unsigned char *csd)
 }
 
 /* A block into the card, its CRC16 as it is to be or with a bit flipped. The card is to answer this number and this data response, or NONE. */
-static void give(const unsigned char *payload, unsigned char start, unsigned char flip, unsigned char number, unsigned int response)
+static void give(const unsigned char *payload, unsigned long length, unsigned char start, unsigned char flip, unsigned char number, unsigned int response)
 {
     unsigned char block[BLOCK], byte;
     unsigned long sent;
     block[0] = start;
-    check(mmc_write_block(payload, SECTOR, block + 1, BLOCK - 1) == 0, "the tester's block is written");
-    block[BLOCK - 1] ^= flip;
-    check(mmc_card_block_in_on_pins(&card, block, sizeof block, memory, SIZE, map, GROUPS, &byte, &sent) == number, "the block's number");
+    check(mmc_write_block(payload, length, block + 1, BLOCK - 1) == 0, "the tester's block is written");
+    block[length + 2] ^= flip;
+    check(mmc_card_block_in_on_pins(&card, block, length + 3, memory, SIZE, map, GROUPS, &byte, &sent) == number, "the block's number");
     show(&byte, sent);
     check(sent == (response != NONE) && (sent == 0 || byte == response), "that is the data response of document 02");
 }
@@ -167,7 +167,7 @@ static void write_block(const unsigned char *pattern)
 {
     ask_r1("It is about to write a block", 24, TEST_AT, READY);
     printf("It sends FE, 512 bytes and their CRC16\n");
-    give(pattern, MMC_START, 0, 0, MMC_ACCEPTED);
+    give(pattern, SECTOR, MMC_START, 0, 0, MMC_ACCEPTED);
     expect(memcmp(memory + TEST_AT, pattern, SECTOR) == 0, "the card accepts the block, and its memory holds it, byte for byte");
     expect(card.numbers.state == MMC_PRG, "the card is busy");
     ask_status("It asks how the write went", 0x00, 0x00);
@@ -189,10 +189,10 @@ static void check_crcs(const unsigned char *pattern)
     ask_damaged("It sends the same command again: refused 3, and R1 says so", 16, SECTOR, 3, CRC_WRONG);
     ask_r1("It is about to write a block", 24, TEST_AT, READY);
     printf("It sends the block with a wrong CRC16: refused 17\n");
-    give(pattern, MMC_START, 1, 17, MMC_CRC_WRONG);
+    give(pattern, SECTOR, MMC_START, 1, 17, MMC_CRC_WRONG);
     ask_r1("It tries again", 24, TEST_AT, READY);
     printf("It sends the block with another start byte: refused 16, with no data response\n");
-    give(pattern, 0xFC, 0, 16, NONE);
+    give(pattern, SECTOR, 0xFC, 0, 16, NONE);
     ask_status("It asks how the write went: the length was wrong", LENGTH_WRONG, 0x00);
     ask_status("It asks again: it was told", 0x00, 0x00);
 }
@@ -204,10 +204,36 @@ static void protect_block(const unsigned char *pattern)
     mmc_card_work_done(&card);
     ask_r1("It is about to write over the block", 24, TEST_AT, READY);
     printf("It sends zeros: refused 19, with no data response\n");
-    give(zeros, MMC_START, 0, 19, NONE);
+    give(zeros, SECTOR, MMC_START, 0, 19, NONE);
     expect(memcmp(memory + TEST_AT, pattern, SECTOR) == 0, "the block is as it was");
     ask_status("It asks how the write went: it broke the protection", 0x00, 0x20);
     ask_r1("It would read block after block, which SPI does not have", 18, TEST_AT, ILLEGAL);
+}
+
+/* A lock request with the password GOANNA7: its first byte says which. */
+static void request(const char *says, unsigned char first)
+{
+    const unsigned char payload[9] = {first, 7, 'G', 'O', 'A', 'N', 'N', 'A', '7'};
+    ask_r1("It sets blocks of 9 bytes, as its lock request has", 16, sizeof payload, READY);
+    ask_r1(says, 42, 0, READY);
+    printf("It sends FE, 9 bytes and their CRC16\n");
+    give(payload, sizeof payload, MMC_START, 0, 0, MMC_ACCEPTED);
+    mmc_card_work_done(&card);
+}
+
+/* A locked card takes CMD16, so that its lock request need not have the 2,048 bytes of a reset. */
+static void lock_and_open(void)
+{
+    request("It sets a password and locks the card", 5);
+    expect(card.numbers.locked == 1, "the card is locked");
+    ask_r1("A handheld resets it", 0, 0, IDLE);
+    ask_r1("It starts the card", 1, 0, READY);
+    expect(card.numbers.locked == 1 && card.numbers.length == 2048, "it is locked still, and its blocks have 2,048 bytes");
+    ask_r1("The handheld would read a block: R1 has no place for what the lock says", 17, 0, READY);
+    ask_status("It asks how that went: the card is locked, and the command failed for it", 0x00, 0x03);
+    ask_r1("It sets blocks of 0 bytes: the length is wrong, and the lock says nothing", 16, 0, LENGTH_WRONG);
+    request("It unlocks the card", 0);
+    expect(card.numbers.locked == 0 && card.numbers.length == 9, "the card is open, and its blocks have 9 bytes still");
 }
 
 static void leave_spi(void)
@@ -239,6 +265,7 @@ int main(void)
     read_block(pattern);
     check_crcs(pattern);
     protect_block(pattern);
+    lock_and_open();
     leave_spi();
     printf("%s\n", wrong ? "Something was NOT as expected" : "Everything was as expected");
     return wrong;

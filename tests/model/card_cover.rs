@@ -87,6 +87,7 @@ impl Cover {
         }
         let seen = Seen { record, line: &line, before: &before, after: &bench.card, map: &map };
         self.watch_reset(&seen);
+        self.watch_opening(&seen);
         match (record, before.mode) {
             (Record::WriteFrame(..), _) => self.met(told("write_frame", &line)),
             (Record::WriteBlock(..), _) => self.met(told("write_block", &line)),

@@ -1,7 +1,7 @@
 //! Everything that a card can reach in scripts of `cardline`, as points with names.
 
 use crate::card::State;
-use crate::{reset_cover, spi_points};
+use crate::{opening_cover, reset_cover, spi_points};
 use std::collections::BTreeSet;
 
 pub const STATES: [&str; 10] = ["idle", "ready", "ident", "stby", "tran", "data", "rcv", "prg", "dis", "ina"];
@@ -14,7 +14,7 @@ pub fn name(state: State) -> &'static str {
 pub const BITS: [u32; 12] = [31, 30, 29, 28, 27, 26, 25, 24, 23, 22, 15, 13];
 
 /// The commands that only an unlocked card carries out.
-pub const LOCKABLE: [u8; 13] = [16, 17, 18, 24, 25, 28, 29, 30, 32, 33, 35, 36, 38];
+pub const LOCKABLE: [u8; 12] = [17, 18, 24, 25, 28, 29, 30, 32, 33, 35, 36, 38];
 
 /// The commands that one card answers to and another does not.
 pub const ADDRESSED: [u8; 5] = [7, 9, 10, 13, 15];
@@ -107,6 +107,7 @@ pub fn expected() -> BTreeSet<String> {
     points.extend(lock_requests());
     points.extend(spi_points::expected());
     points.extend(reset_cover::expected());
+    points.extend(opening_cover::expected());
     points
 }
 

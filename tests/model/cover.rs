@@ -18,6 +18,8 @@ pub struct Cover {
     pub outlived: BTreeSet<&'static str>,
     /// How the card was last reset, if no CMD16 was taken since.
     pub unset_since: Option<&'static str>,
+    /// Whether the block length is one that was set while the card was locked.
+    pub set_while_locked: bool,
     /// Whether the last record was a frame in SPI whose R1, beside number 3, showed a bit of a block.
     pub shown_beside_3: bool,
 }

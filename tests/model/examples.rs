@@ -83,6 +83,50 @@ fn the_block_length_after_a_reset() {
     assert_eq!([made(&[]).unwrap().block_length, powered.block_length, idle[0], idle[1]], [2_048; 4]);
 }
 
+/// A locked card in tran, with the password 2A: in MMC mode, and in SPI.
+fn locked() -> [(Card, Select); 2] {
+    let card = Card { state: State::Tran, ..made(&[0x2A]).unwrap() };
+    let in_spi = Card { mode: Mode::Spi { checks_crc: false }, ..card.clone() };
+    [(card, Select::High), (in_spi, Select::Low)]
+}
+
+/// "Check 5 reads from now on: class 0, CMD16 and CMD42" (request 4 of document 02). Of the commands that are legal in tran in a mode, those that
+/// leave bit 24 or tell it are the others.
+#[test]
+fn what_a_locked_card_lets_go_on() {
+    let others = [17, 18, 24, 25, 28, 29, 30, 32, 33, 35, 36, 38];
+    for (card, select) in locked() {
+        for index in 0..64 {
+            let mut after = card.clone();
+            let answer = after.frame(&wire::command(index, 1), select, &mut [0; 8_192], &mut [0]).unwrap();
+            let is_stopped = others.contains(&index) && (select == Select::High || !matches!(index, 18 | 25));
+            let told = answer.is_some_and(|r1| r1.len() == 6 && r1[1] & 0x01 != 0) || after.errors & LOCK_UNLOCK_FAILED != 0;
+            assert_eq!(told, is_stopped, "CMD{index}");
+            assert_eq!(after.block_length, if index == 16 { 1 } else { LENGTH_AFTER_RESET }, "CMD{index}");
+        }
+    }
+}
+
+/// "A handheld sets the block length to the length of its lock request before CMD42": with every length from that of the request on.
+#[test]
+fn a_handheld_opens_a_card() {
+    for (card, select) in locked() {
+        for length in [0, 1, 2, 3, 4, 5, 512, 2_047, 2_048, 2_049] {
+            let mut card = card.clone();
+            let set = card.frame(&wire::command(16, length), select, &mut [0; 8_192], &mut [0]).unwrap().unwrap();
+            let bad = !(1..=2_048).contains(&length);
+            let status = if bad { 0x2200_0900 } else { 0x0200_0900 };
+            assert_eq!(set, if select == Select::High { wire::r1(16, status) } else { vec![(bad as u8) << 6] });
+            card.frame(&wire::command(42, 0), select, &mut [0; 8_192], &mut [0]).unwrap();
+            let mut request = vec![0, 1, 0x2A];
+            request.resize(if bad { 2_048 } else { length as usize }, 0x99);
+            let result = card.block_in(&card.framed(&request), &mut [0; 8_192], &mut [0]);
+            assert_eq!(result.is_ok(), request.len() >= 3);
+            assert_eq!((card.locked, card.block_length), (request.len() < 3, request.len() as u64));
+        }
+    }
+}
+
 #[test]
 fn the_second_cid_of_the_shared_line() {
     let mut first = [0; 15];

@@ -26,6 +26,7 @@ mod hex;
 mod lock;
 mod lock_cover;
 mod moves;
+mod opening_cover;
 mod program;
 mod requests;
 mod reset_cover;

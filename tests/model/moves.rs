@@ -8,9 +8,9 @@ use crate::wire::Command;
 /// "6. Argument errors: R1 with the bit, no move."
 pub type Checked = Result<State, u32>;
 
-/// "5. Locked: only class 0 and CMD42 go on": class 0 is 0 to 15 and, of the two of SPI, 58 and 59.
+/// "Check 5 reads from now on: class 0, CMD16 and CMD42" (request 4): class 0 is 0 to 15 and, of the two of SPI, 58 and 59.
 fn goes_on_locked(index: u8) -> bool {
-    matches!(index, 0..=15 | 42 | 58 | 59)
+    matches!(index, 0..=15 | 16 | 42 | 58 | 59)
 }
 
 impl Card {

@@ -40,7 +40,7 @@ impl Cover {
 }
 
 /// The command of a frame that the card takes note of.
-fn heard(seen: &Seen) -> Option<Command> {
+pub fn heard(seen: &Seen) -> Option<Command> {
     let Record::Frame(select, frame) = seen.record else { return None };
     let is_deaf = seen.before.state == State::Ina || seen.before.mode != Mode::Mmc && *select == Select::High;
     if is_deaf || refusal(seen.line).is_some() {
@@ -50,8 +50,8 @@ fn heard(seen: &Seen) -> Option<Command> {
 }
 
 /// Whether a CMD16 of this argument is taken without an error.
-fn sets(argument: u32, seen: &Seen) -> bool {
-    seen.before.state == State::Tran && seen.after.block_length == argument as u64 && !seen.before.locked
+pub fn sets(argument: u32, seen: &Seen) -> bool {
+    seen.before.state == State::Tran && seen.after.block_length == argument as u64
 }
 
 /// What the block length matters for: a write that is asked of an unlocked card, a block of memory that

@@ -179,17 +179,30 @@ impl Walk {
         }
     }
 
-    /// A locked card grants little: mostly it is asked to unlock or to erase all.
+    /// A locked card grants little: mostly it is asked to unlock or to erase all, in a block whose length is set for that.
     fn lead_on_locked(&mut self) {
         match self.dice.below(8) {
             0 => self.command(13, self.own()),
             1 => {
-                let index = self.dice.pick(&[16, 17, 18, 24, 25, 28, 29, 30, 32, 33, 35, 36, 38]);
+                let index = self.dice.pick(&[17, 18, 24, 25, 28, 29, 30, 32, 33, 35, 36, 38]);
                 let argument = self.address();
                 self.command(index, argument);
             }
-            _ => self.command(42, 0),
+            2 => self.command(42, 0),
+            _ => {
+                self.set_request_length();
+                self.command(42, 0);
+            }
         }
+    }
+
+    /// The length of an unlock request or one near it; seldom one that is good for something else, or for nothing.
+    fn set_request_length(&mut self) {
+        let whole = 2 + self.card().password.len() as u32;
+        let near = self.dice.pick(&[whole, whole, whole, whole + 1, whole + 3, whole - 1, 1, 2]);
+        let other = self.dice.pick(&[0, 512, 512, 2_049, 0x1_0000 | whole]);
+        let length = if self.dice.percent(80) { near } else { other };
+        self.command(16, length);
     }
 
     fn set_block_length(&mut self) {

@@ -36,7 +36,10 @@
 --   read-erases              CMD17 erases
 -- Of check 5 alone:
 --   lock-stops-request       CMD42 is stopped by the lock
+--   lock-stops-length        CMD16 is
 --   lock-passes-read         CMD17 passes it
+--   lock-passes-tag          CMD32 does
+--   length-told-by-lock      CMD16 of 0 is answered with bit 24 by a locked card
 --   unlocked-stops           an unlocked card stops CMD17
 -- Of the tags:
 --   status-drops             CMD13 drops tags
@@ -213,9 +216,21 @@ lock-stops-request : passesLock true 42 ≡ false → ⊥
 unfolding classOf
 lock-stops-request e = clash cc
 
+lock-stops-length : passesLock true 16 ≡ false → ⊥
+unfolding classOf
+lock-stops-length e = clash cc
+
 lock-passes-read : passesLock true 17 ≡ true → ⊥
 unfolding classOf
 lock-passes-read e = clash cc
+
+lock-passes-tag : passesLock true 32 ≡ true → ⊥
+unfolding classOf
+lock-passes-tag e = clash cc
+
+length-told-by-lock : judgedOf (card Tran 0 noTags) 1 true 16 0 .error ≡ Bit (errorBit 24) → ⊥
+unfolding judgedOf taggingOf argumentFault classOf
+length-told-by-lock e = clash cc
 
 unlocked-stops : passesLock false 17 ≡ false → ⊥
 unlocked-stops e = clash cc

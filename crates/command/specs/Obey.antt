@@ -36,9 +36,9 @@ use Rattle.command.specs.declared.Met.{Met}
 abbrev pub dropsTags : ℕ → Bool
 dropsTags index = not (among index (0 ∷ 13 ∷ 32 ∷ 33 ∷ 35 ∷ 36 ∷ 38 ∷ []))
 
--- 5: "Locked: only class 0 and CMD42 go on"
+-- 5: "Locked: only class 0 and CMD42 go on". Document 02, request 4: "Check 5 reads from now on: class 0, CMD16 and CMD42"
 abbrev pub passesLock : Bool → ℕ → Bool
-passesLock locked index = not locked || (eqb (classNumber (classOf index)) 0 || eqb index 42)
+passesLock locked index = not locked || (eqb (classNumber (classOf index)) 0 || among index (16 ∷ 42 ∷ []))
 
 -- a command that leaves these tags and finds no error in its argument
 abbrev pub leaving : Tags → Tagging

@@ -3,7 +3,8 @@
 --   judged-as         a frame is judged by its framing, where nothing is lent wrong
 --   heard-in-mmc      a card in MMC mode takes a command as document 01 has it, but for a CMD0 with its line low
 --   heard-in-spi      a card in SPI takes it as SPI has it with the line low, and does not hear it with the line high
---   unlent            a frame whose command changes nothing lent leaves the record and the answer of its command, and every lent byte
+--   unlent-judged, unlent    a frame whose command changes nothing lent leaves the record and the answer of its command, and every lent byte:
+--                     however it was read, and as its bytes are read in every mode
 --   silenced-frame    a silenced frame sends nothing, leaves the card with its link as the command leaves it, and every lent byte
 --   unchanged-frame   a frame that is silent and unchanged leaves the card equal in every field
 --   lost-frame        so does CMD2 at a card that lost it, whatever its state: nothing is sent, and nothing that is lent changes. A card in
@@ -91,6 +92,20 @@ heard-in-spi card wins true index argument here =
 heard-in-spi card wins false index argument here = spi-high (card .mode) (card .link) (metBy card wins) index argument here
 
 -- ---- whole frames
+module _ (card : Card) (wins selected : Bool) (frame : List ℕ) (lent : Lent) (out : List ℕ) (heard : Heard)
+    (judged : frameJudged card wins selected frame (seen lent) ≡ commanded card Done heard) where
+  pub unlent-judged : heard .change ≡ Nothing → Unlent card wins selected frame lent out heard
+  unfolding frameStepped
+  unlent-judged same =
+      let kept : frameJudged card wins selected frame (seen lent) .change ≡ Nothing = ap (λ (j : FrameJudged). j .change) judged ∙ same in
+      record {
+        step =
+            ap (λ (c : Change). sparedTold (frameJudged card wins selected frame (seen lent) .stepped) (spares card (seen lent) c)) kept
+            ∙ ap (λ (j : FrameJudged). j .stepped) judged;
+        lent-kept = ap (λ (c : Change). changedBy card c lent) kept;
+        output-kept = refl;
+      }
+
 module _ (card : Card) (wins selected : Bool) (frame : List ℕ) (lent : Lent) (out : List ℕ) (index argument : ℕ) (reads : Reads card frame lent index argument) where
   abbrev given : Heard
   given = heardAt card wins selected index argument
@@ -101,16 +116,7 @@ module _ (card : Card) (wins selected : Bool) (frame : List ℕ) (lent : Lent) (
       judged-as card wins selected frame (seen lent) (reads .right) (Framed index argument true) (framing (framingOf frame) index argument (reads .command))
 
   pub unlent : given .change ≡ Nothing → Unlent card wins selected frame lent out given
-  unfolding frameStepped
-  unlent same =
-      let kept : frameJudged card wins selected frame (seen lent) .change ≡ Nothing = ap (λ (j : FrameJudged). j .change) judged ∙ same in
-      record {
-        step =
-            ap (λ (c : Change). sparedTold (frameJudged card wins selected frame (seen lent) .stepped) (spares card (seen lent) c)) kept
-            ∙ ap (λ (j : FrameJudged). j .stepped) judged;
-        lent-kept = ap (λ (c : Change). changedBy card c lent) kept;
-        output-kept = refl;
-      }
+  unlent = unlent-judged card wins selected frame lent out given judged
 
   -- so a command that is heard as something which changes nothing lent
   pub unlent-as : (heard : Heard) → given ≡ heard → heard .change ≡ Nothing → Unlent card wins selected frame lent out heard

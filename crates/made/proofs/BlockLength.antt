@@ -137,11 +137,10 @@ module _ (card : Card) (input : Input) where
         → LengthLeft card input (argument % 65536)
     unfolding taggingOf argumentFault
     sets i on e =
-        let right = unfaulted (card .link) met 16 argument (rw i at e) in
-        let range = length-right argument (right .1) in
+        let range = length-right argument (unfaulted (card .link) met 16 argument (rw i at e) .1) in
         let whole : argument % 65536 ≡ argument = omega arith in
         subst⁻¹ (LengthLeft card input) whole
-        (set argument (record { brought = subst (λ (k : ℕ). Brings card input k argument) i brought; tran = on; passes = right .0; range = range }))
+        (set argument (record { brought = subst (λ (k : ℕ). Brings card input k argument) i brought; tran = on; range = range }))
 
     took-length : (index ≡ 16 → card .link .state ≡ Tran) → {next : Link} {change : Change}
         → Took (card .link) met index argument next change → Leaves next

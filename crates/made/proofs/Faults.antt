@@ -1,6 +1,6 @@
 -- What a command's argument is where check 6 finds no error in it, and where the lock lets it through.
 --   address-right, length-right, read-right, write-right, group-right    by the command's order of errors
---   passes, unlocked    class 0 and CMD42 pass a lock; what a lock would stop and is let through meets none
+--   passes, unlocked    what passes a lock passes where there is none; what a lock would stop and is let through meets none
 -- Assumes nothing.
 use mathlib.Core.Path.{_≡_, refl}
 use mathlib.Core.Bool.{Bool, true, false, not}

@@ -52,7 +52,8 @@ pub record MadeLock (lock : Lock) : Type 0 where
   pub locked : lock .locked ≡ true → 1 ≤ lock .length
 
 -- what a card in data is to send. CMD17: no "block past the end", none "crossing a multiple of 2,048"; CMD18 "moves on by one block", at most
--- to the end; CMD30: the addressed group is one of the card's; in SPI a register, of a locked card too. "Locked: only class 0 and CMD42 go on"
+-- to the end; CMD30: the addressed group is one of the card's; in SPI a register, of a locked card too. At a locked card "class 0, CMD16 and CMD42"
+-- go on, and none that reads memory or map
 abbrev pub Sends : ℕ → ℕ → Bool → Outgoing → Type 0
 Sends groups length locked (OneOut at) = (locked ≡ false) × ((at + length ≤ sizeOf groups) × (crosses at length ≡ false))
 Sends groups length locked (ManyOut at) = (locked ≡ false) × (at ≤ sizeOf groups)

@@ -4,8 +4,11 @@ pub mod Commands
 pub mod Framed
 pub mod FromMade
 pub mod GoodBlocks
+pub mod InTran
+pub mod InUse
 pub mod Locked
 pub mod LockedInUse
+pub mod Opening
 pub mod Protected
 pub mod ReadBack
 pub mod Requests

@@ -3,8 +3,8 @@
 --   unlocks-only          it is unlocked only by power-on with no password stored, a granted forced erase, or an unlock with exactly the stored
 --                         password
 --   unlocks-by-request    where a password is stored, only by the latter two
---   held-back             a command that is neither of class 0 nor CMD42 moves nothing, changes no mode and nothing that is lent
---   let-through           so a command that moves or changes something is of class 0 or CMD42
+--   held-back             a command that is neither of class 0 nor CMD16 or CMD42 moves nothing, changes no mode, block length or lent byte
+--   let-through           so a command that moves or changes something is of class 0, CMD16 or CMD42
 -- Assumes nothing.
 use mathlib.Core.Path.{_≡_, refl, sym, ap, ap₂, _∙_}
 use mathlib.Core.Bool.{Bool, true, false, not, _&&_}

@@ -156,7 +156,7 @@ module _ (spi : Bool) (groups : ℕ) (lent : Lent) (right : lendingOf (seen lent
         let w1 : World = next w (given WorkDone []) in
         let h1 : Holds Tran w1 = by-work w h in
         let w2 : World = commanded spi w1 16 512 in
-        let h2 = by-frame w1 Tran 512 16 512 h1 (omega arith) (omega arith) (leaves-16 (w1 .card) (h1 .unlocked) spi (h1 .mode-is) (h1 .state-is)) in
+        let h2 = by-frame w1 Tran 512 16 512 h1 (omega arith) (omega arith) (leaves-16 (w1 .card) spi (h1 .mode-is) (h1 .state-is)) in
         let reach : at + 512 ≤ sizeOf (w2 .card .registers .groups) = rw (h2 .0 .groups-are) in-range in
         let w3 : World = commanded spi w2 17 at in
         let h3 =

@@ -11,7 +11,7 @@
 -- Assumes nothing.
 use mathlib.Core.Path.{_≡_, refl, ap, _∙_, subst}
 use mathlib.Core.Bool.{Bool, true, false}
-use mathlib.Core.List.{List, [], _∷_, _++_, map}
+use mathlib.Core.List.{List, [], _∷_, _++_}
 use Prim.Native.Nat.{ℕ, _+_}
 use native.Mathlib.Omega.{arith}
 use borrow.Author.Tests.{eq-eqb}
@@ -21,8 +21,7 @@ use lib.Seq.{take-at}
 use Rattle.base.proofs.Cases.{opposite}
 use Rattle.base.specs.Refusals.{by}
 use Rattle.card.specs.Frame.{frameJudged, frameStepped}
-use Rattle.card.specs.Step.{stepOf}
-use Rattle.card.specs.declared.Call.the-variants.{Frame, PowerOn}
+use Rattle.card.specs.declared.Call.the-variants.{PowerOn}
 use Rattle.card_blocks.proofs.Laying.{laid-whole}
 use Rattle.card_blocks.specs.BlockIn.{blockRefused, blockGood, requestJudged, awaitedJudged, blockJudged, storedBy}
 use Rattle.card_blocks.specs.BlockOut.{outGood, partJudged, outJudged, partBlock, sentOut}
@@ -32,7 +31,6 @@ use Rattle.card_blocks.specs.declared.Outcome.the-variants.{Done, Wrote, Refuse
 use Rattle.card_blocks.specs.declared.Storing.the-variants.{Nothing}
 use Rattle.card_record.specs.Making.{passwordMade, madeOf}
 use Rattle.card_record.specs.Power.{freshLink, poweredOn}
-use Rattle.card_record.specs.declared.Sent.{Sent}
 use Rattle.card_record.specs.declared.Sent.the-variants.{Status, SpiR1}
 use Rattle.command.specs.Answers.{responseOf, answered}
 use Rattle.command.specs.Arguments.{argumentFault}
@@ -57,9 +55,8 @@ use Rattle.states.specs.declared.Outgoing.the-variants.{One as OneOut}
 use Rattle.states.specs.declared.State.{State}
 use Rattle.states.specs.declared.State.the-variants.{Tran, Data, Rcv, Prg}
 use Rattle.status.specs.Status.{noErrors, wordOf}
-use Rattle.store.specs.Lent.{Lent, lentOf, seen}
+use Rattle.store.specs.Lent.{seen}
 use Rattle.store.specs.Map.{entriesRight}
-use Rattle.tags.specs.Tagging.{noTags}
 use Rattle.wire.proofs.BlockTheorems.{long}
 use Rattle.wire.specs.Blocks.{blockOf}
 use Rattle.wire.specs.Frames.{crc7Of, sealed, commandFrame, fieldsOf, framingOf}
@@ -69,38 +66,17 @@ use Rattle.stored.specs.AfterReset.{made, Unset, Unwritable}
 use Rattle.stored.specs.ReadBack.{commanded, blockIn, blockOut}
 use Rattle.stored.proofs.AfterReset.{until-set}
 use Rattle.stored.proofs.Framed.{start-length, request-right}
+use Rattle.stored.proofs.InUse.{lent, cardWith, commands, toTran, answer}
 
 -- ---- the card
-abbrev lent : Lent
-lent = lentOf (replicate 8192 0x33) (0 ∷ [])
-
--- a card of 8,192 bytes and address 1, in SPI or in MMC mode, with this password record, in a state, with a block length
 abbrev holding-card : Bool → Lock → State → ℕ → World
-holding-card spi lock state length =
-    record {
-      card = record {
-        registers = record { cid = register; csd = register; ocr = 0x00FF8000; groups = 1 };
-        lock = lock;
-        link = record { state = state; address = 1; length = length; errors = noErrors; tags = noTags };
-        mode = record { spi = spi; checks = false };
-      };
-      lent = lent;
-    }
+holding-card spi lock state length = cardWith spi lock state length noErrors
 
 abbrev card : Bool → State → ℕ → World
 card spi = holding-card spi noPassword
 
 abbrev reset : Bool → World
 reset spi = card spi Tran 2048
-
--- commands as a card of this mode is sent them
-abbrev commands : Bool → List (ℕ × ℕ) → List Input
-commands spi = map (λ (c : ℕ × ℕ). given (Frame true spi) (commandFrame (c .0) (c .1)))
-
--- the way to tran: CMD1 of the window, CMD2, CMD3 to address 1, CMD7 to it; in SPI CMD0 with the line low, and CMD1
-abbrev toTran : Bool → List Input
-toTran true = commands true ((0, 0) ∷ (1, 0) ∷ [])
-toTran false = commands false ((1, 0x00FF8000) ∷ (2, 0) ∷ (3, 0x00010000) ∷ (7, 0x00010000) ∷ [])
 
 -- ---- resets
 -- a card that was just made
@@ -149,10 +125,6 @@ comes-from-low true = refl
 comes-from-low false = refl
 
 -- ---- writes
--- what a command is answered with, and the world that it leaves, in the mode of the card
-abbrev answer : Bool → World → ℕ → ℕ → Sent
-answer spi w index argument = stepOf (w .card) (Frame true spi) (commandFrame index argument) (seen (w .lent)) 0 .reply .sent
-
 -- bit 29, in tran, ready for data
 pub writes-refused : ((answer false (reset false) 24 512 ≡ Status 24 0x20000900) × (commanded false (reset false) 24 512 ≡ reset false))
     × ((answer false (reset false) 25 512 ≡ Status 25 0x20000900) × (commanded false (reset false) 25 512 ≡ reset false))

@@ -1,8 +1,9 @@
--- What the commands of a run that reads do to an unlocked card, in MMC mode with the select line high and in SPI with it low.
+-- What the commands of a run that reads do to a card, in MMC mode with the select line high and in SPI with it low.
 --   Leaves            the state, the block length and the mode that a command leaves, and that nothing changes in what is lent
---   leaves-12, leaves-16, leaves-17    CMD12 in rcv (in MMC mode), CMD16 of 512 in tran, CMD17 in tran at an aligned address in range
+--   leaves-16            CMD16 of 512 in tran, of a card that is locked or is not
+--   leaves-12, leaves-17    of one that is not: CMD12 in rcv (in MMC mode), CMD17 in tran at an aligned address in range
 -- Assumes nothing.
-use mathlib.Core.Path.{_≡_, refl, sym, subst}
+use mathlib.Core.Path.{_≡_, refl, sym, ap, _∙_, subst}
 use mathlib.Core.Bool.{Bool, true, false}
 use Prim.Native.Nat.{ℕ, _+_, _%_, _≤_}
 use native.Mathlib.Omega.{arith}
@@ -28,6 +29,7 @@ use Rattle.states.specs.declared.Outgoing.the-variants.{One}
 use Rattle.states.specs.declared.State.{State}
 use Rattle.states.specs.declared.State.the-variants.{Tran, Data, Rcv, Prg}
 use Rattle.tags.specs.Tagging.{noTags}
+use Rattle.stored.proofs.InTran.{length-heard}
 
 pub record Leaves (spi : Bool) (state : State) (length : ℕ) (heard : Heard) : Type 0 where
   pub mode-is : heard .mode .spi ≡ spi
@@ -57,15 +59,20 @@ at-open P spi card index argument s m l e h =
     (subst (λ (b : Bool). P (heardOf (modeOf card spi) spi (card .link) (open-met card b) index argument)) (sym l)
     (subst (λ (x : State). P (heardOf (modeOf card spi) spi (withState (card .link) x) (open-met card false) index argument)) (sym e) h))
 
+pub leaves-16 : (card : Card) (spi : Bool) → card .mode .spi ≡ spi → card .link .state ≡ Tran → Leaves spi Tran 512 (heardAt spi card 16 512)
+leaves-16 card spi mode on =
+    let heard = length-heard spi card true spi (record { mode-is = mode; tran = on; low = λ here. sym mode ∙ here }) 512 (omega arith) (omega arith) in
+    record {
+      mode-is = ap (λ (h : Heard). h .mode .spi) heard ∙ mode;
+      state-is = ap (λ (h : Heard). h .link .state) heard;
+      length-is = ap (λ (h : Heard). h .link .length) heard;
+      unchanged = ap (λ (h : Heard). h .change) heard;
+    }
+
 module _ (card : Card) (unlocked : card .lock .locked ≡ false) where
   stop : (incoming : Incoming) → Leaves false Prg (card .link .length) (openly false card (Rcv incoming) 12 0)
   unfolding heardOf commandOf rowOf moveOf takenOf actedOf judgedOf taggingOf argumentFault afterChecks answered obeyed awaitedBy changeOf
   stop incoming = record { mode-is = refl; state-is = refl; length-is = refl; unchanged = refl }
-
-  size : (spi : Bool) → Leaves spi Tran 512 (openly spi card Tran 16 512)
-  unfolding heardOf spiHeard rowInSpi moveInSpi takenIn answeredIn commandOf rowOf transferRow moveOf takenOf actedOf judgedOf taggingOf argumentFault afterChecks answered obeyed awaitedBy changeOf
-  size true = record { mode-is = refl; state-is = refl; length-is = refl; unchanged = refl }
-  size false = record { mode-is = refl; state-is = refl; length-is = refl; unchanged = refl }
 
   pub leaves-12 : (incoming : Incoming) → card .mode .spi ≡ false → card .link .state ≡ Rcv incoming
       → Leaves false Prg (card .link .length) (heardAt false card 12 0)
@@ -73,9 +80,6 @@ module _ (card : Card) (unlocked : card .lock .locked ≡ false) where
       at-open (Leaves false Prg (card .link .length)) false card 12 0 (Rcv incoming) m unlocked e (stop incoming)
 
   module _ (spi : Bool) (mode : card .mode .spi ≡ spi) where
-    pub leaves-16 : card .link .state ≡ Tran → Leaves spi Tran 512 (heardAt spi card 16 512)
-    leaves-16 e = at-open (Leaves spi Tran 512) spi card 16 512 Tran mode unlocked e (size spi)
-
     module _ (at : ℕ) (in-range : at + 512 ≤ sizeOf (card .registers .groups)) (aligned : at % 512 ≡ 0) where
       no-fault : card .link .length ≡ 512 → judgedOf (withState (card .link) Tran) (card .registers .groups) false 17 at ≡ leaving noTags
       unfolding judgedOf taggingOf argumentFault

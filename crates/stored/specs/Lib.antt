@@ -1,4 +1,5 @@
 pub mod AfterReset
 pub mod Changes
 pub mod Locked
+pub mod Opening
 pub mod ReadBack

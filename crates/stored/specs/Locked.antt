@@ -1,5 +1,5 @@
--- Document 01, "How a card takes a frame" and "Reading, writing, erasing, locking": what a locked card lets happen, in MMC
--- mode and in SPI.
+-- Document 01, "How a card takes a frame" and "Reading, writing, erasing, locking", and document 02, request 4, "Check 5 reads from now on: class 0,
+-- CMD16 and CMD42": what a locked card lets happen, in MMC mode and in SPI.
 -- Assumes nothing.
 use mathlib.Core.Path.{_≡_}
 use mathlib.Core.Bool.{Bool, true}
@@ -18,7 +18,7 @@ use Rattle.states.specs.declared.State.the-variants.{Rcv}
 use Rattle.store.specs.Lent.{Lent, Seen, seen}
 use Rattle.stored.specs.Changes.{AwaitsWrite, payloadAt, ForcedErase}
 
--- a locked card that awaits no write: "Locked: only class 0 and CMD42 go on", so none of a locked card's commands makes it await one
+-- a locked card that awaits no write: "class 0, CMD16 and CMD42" go on there, none of which makes it await one
 pub record LockedCard (card : Card) : Type 0 where
   pub locked : card .lock .locked ≡ true
   pub no-write : (at : ℕ) → AwaitsWrite card at → ⊥
@@ -38,7 +38,8 @@ pub data Unlocking (card : Card) (call : Call) (input : List ℕ) (seen : Seen) 
   forced : ForcedErase card call input seen → Unlocking card call input seen
   unlocked : UnlockGranted card call input seen → Unlocking card call input seen
 
--- "others answer R1 with bit 24, no move": a frame leaves state, address, block length and mode as they were, and every byte that is lent
+-- "others answer R1 with bit 24, no move", others than class 0, CMD16 and CMD42: a frame leaves state, address, block length and mode as they were,
+-- and every byte that is lent
 pub record Unmoved (card : Card) (wins selected : Bool) (frame : List ℕ) (lent : Lent) (room : ℕ) : Type 0 where
   pub state : stepOf card (Frame wins selected) frame (seen lent) room .card .link .state ≡ card .link .state
   pub address : stepOf card (Frame wins selected) frame (seen lent) room .card .link .address ≡ card .link .address

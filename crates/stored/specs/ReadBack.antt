@@ -43,7 +43,7 @@ storedThenRead spi w block at = readAgain spi (next w (blockIn block)) at
 abbrev pub storedStoppedThenRead : World → List ℕ → ℕ → World
 storedStoppedThenRead w block at = readAgain false (commanded false (next w (blockIn block)) 12 0) at
 
--- what is known of a card that awaits a write at an address: "Locked: only class 0 and CMD42 go on"; "CMD24, 25: .. aligned to 512 (30)";
+-- what is known of a card that awaits a write at an address: CMD24 and 25 do not go on at a locked one; "CMD24, 25: .. aligned to 512 (30)";
 -- and an address is an argument, of 32 bits. That the block lies in memory need not be known: one that does not is refused 18
 pub record Awaiting (card : Card) (at : ℕ) : Type 0 where
   pub unlocked : card .lock .locked ≡ false
