@@ -4,6 +4,8 @@
 //
 // Offers: `Refusal`, `number`, `Written`; `SECTOR`, `ERASE_GROUP`, `PROTECTION_GROUP`, `READ_BLOCK`;
 // `least`, `fill`, `copy`.
+#![tactic(auto)]
+
 ghost use Rattle.std.specs.Prelude.{◌≡◌, min, length, replicate};
 ghost use Rattle.base.specs.Output.{copied};
 ghost use Rattle.base.specs.Refusals.{number_of};
@@ -19,7 +21,7 @@ pub const PROTECTION_GROUP: u32 = 8192;
 pub const READ_BLOCK: u32 = 2048;
 
 // Document 01, "Refusal numbers": a name for each row of the table, in its order.
-#[derive(Drop)]
+#[derive(Clone, Copy)]
 pub enum Refusal {
     FrameLength,
     FrameBits,
@@ -46,7 +48,7 @@ pub enum Refusal {
 
 // What a call that writes into a lent output answers: how many bytes at its front are the answer,
 // or the refusal.
-#[derive(Drop)]
+#[derive(Clone, Copy)]
 pub enum Written {
     Bytes(usize),
     Refused(Refusal),

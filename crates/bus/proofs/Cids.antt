@@ -38,7 +38,7 @@ any_ready_lem (x ∷ cards) e =
 
 none_ready : (cards : List Card) → any_ready cards ≡ false → (card : Card) → Memᴰ card cards → is_ready card ≡ false
 unfolding any_ready
-none_ready [] e card m = absurd (Memᴰ.not_nil m)
+none_ready [] e card m = absurd (Memᴰ.not-nil m)
 none_ready (x ∷ cards) e card (Memᴰ.head p) =
     cases (is_ready card)
     (λ (t : is_ready card ≡ true). let u : is_ready x ≡ true = ap is_ready (sym p) ∙ t in absurd (false≢true (sym (rw u at e))))
@@ -61,7 +61,7 @@ longest_within voice (frame ∷ frames) h =
 
 longest_least : (voice : List ℕ) (frames : List (List ℕ)) → Memᴰ voice frames → length voice ≤ longest_of frames
 unfolding longest_of
-longest_least voice [] m = absurd (Memᴰ.not_nil m)
+longest_least voice [] m = absurd (Memᴰ.not-nil m)
 longest_least voice (frame ∷ frames) (Memᴰ.head e) = let n : length voice ≡ length frame = ap length e in omega arith
 longest_least voice (frame ∷ frames) (Memᴰ.tail m) = let h = longest_least voice frames m in omega arith
 

@@ -68,8 +68,8 @@ change_all f bus next i long all count cards =
 
 pub first_all : (P : Card → Type 0) (n : ℕ) (l : List Card) → ((i : ℕ) (d : Card) → i < n → P (get_or l i d))
     → (c : Card) → Memᴰ c (take n l) → P c
-first_all P zero l h c m = absurd (Memᴰ.not_nil m)
-first_all P (suc n) [] h c m = absurd (Memᴰ.not_nil m)
+first_all P zero l h c m = absurd (Memᴰ.not-nil m)
+first_all P (suc n) [] h c m = absurd (Memᴰ.not-nil m)
 first_all P (suc n) (x ∷ l) h c (Memᴰ.head e) = subst P (sym e) (h 0 x (omega arith))
 first_all P (suc n) (x ∷ l) h c (Memᴰ.tail m) = first_all P n l (λ i d k. h (suc i) d (omega arith)) c m
 

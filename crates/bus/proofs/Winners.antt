@@ -119,7 +119,7 @@ low_old low (card ∷ cards) any =
 pub low_least : (low : Low) (cards : List Card) (card : Card) → Memᴰ card cards → is_ready card ≡ true
     → ((low_from low cards).any ≡ true) × (cid_number (low_from low cards).cid ≤ cid_number (cid_of card))
 unfolding low_from
-low_least low [] card m r = absurd (Memᴰ.not_nil m)
+low_least low [] card m r = absurd (Memᴰ.not-nil m)
 low_least low (x ∷ cards) card (Memᴰ.head e) r =
     let b = better_new low x (ap is_ready (sym e) ∙ r) in
     let o = low_old (better_of low x) cards b.0 in

@@ -3,6 +3,8 @@
 // records and any count may come in, so no call has a `requires`.
 //
 // Offers: `Bus`, `empty`, `Added`, `add`; `Shown`, `Framed`, `frame`; `Taken`, `take`, `put`.
+#![tactic(auto)]
+
 mod contest;
 mod hearing;
 
@@ -15,27 +17,27 @@ use contest::{contends, holds, lowest};
 use hearing::{asked_of, decide, line_by, quiet, shown_by, turn};
 
 // The cards in the places from 0 on; a count over 30 reads as 30.
-#[derive(Drop)]
+#[derive(Clone, Copy)]
 pub struct Bus {
     pub cards: [Card; 30],
     pub count: usize,
 }
 
 // The place of an added card, or the refusal.
-#[derive(Drop)]
+#[derive(Clone, Copy)]
 pub enum Adding {
     Place(usize),
     Refused(Refusal),
 }
 
-#[derive(Drop)]
+#[derive(Clone, Copy)]
 pub struct Added {
     pub bus: Bus,
     pub adding: Adding,
 }
 
 // What the line shows: so many bytes; nothing; or the refusal.
-#[derive(Drop)]
+#[derive(Clone, Copy)]
 pub enum Shown {
     Line(usize),
     Silent,
@@ -43,7 +45,7 @@ pub enum Shown {
 }
 
 // What a frame leaves: the bus, what the line shows, and its bytes, zeros behind them.
-#[derive(Drop)]
+#[derive(Clone, Copy)]
 pub struct Framed {
     pub bus: Bus,
     pub shown: Shown,
@@ -52,7 +54,7 @@ pub struct Framed {
 
 // What a frame asks of a bus: a command of all its cards; that they are told of a wrong CRC7; or
 // nothing, and the refusal.
-#[derive(Drop)]
+#[derive(Clone, Copy)]
 pub enum Asked {
     Command { index: u8, argument: u32 },
     Damaged,
@@ -60,21 +62,21 @@ pub enum Asked {
 }
 
 // A card, and whether the place was taken.
-#[derive(Drop)]
+#[derive(Clone, Copy)]
 pub struct Taken {
     pub card: Card,
     pub found: bool,
 }
 
 // What the line holds of the frames so far: their AND, and the length of the longest.
-#[derive(Drop)]
+#[derive(Clone, Copy)]
 pub struct Heard {
     pub line: [u8; 17],
     pub length: usize,
 }
 
 // A card after its turn, and what the line then holds.
-#[derive(Drop)]
+#[derive(Clone, Copy)]
 pub struct Turned {
     pub card: Card,
     pub heard: Heard,

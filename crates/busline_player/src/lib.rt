@@ -4,6 +4,8 @@
 // it arrives is the operating system's.
 //
 // Offers: `Turned`, `advance`.
+#![tactic(auto)]
+
 ghost use Rattle.std.specs.Prelude.{◌≡◌, ◌++◌, ◌-◌, length, take, drop};
 ghost use Rattle.busline_records.specs.Transcript.{piece_of};
 ghost use Rattle.busline_player.specs.Turn.{turned_by};
@@ -15,7 +17,7 @@ use text::parts::part;
 
 // What a turn leaves: the bytes at the front of the buffer that are left over, and those of the text
 // at the front of the output; how the script goes on.
-#[derive(Drop)]
+#[derive(Clone, Copy)]
 pub struct Turned {
     pub progress: Progress,
     pub kept: usize,

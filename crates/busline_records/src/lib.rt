@@ -7,6 +7,8 @@
 // No call has a `requires`: where there is no room for the longest line, that is answered.
 //
 // Offers: `Asked`, `read`, `identifier`; `Progress`, `fresh`; `Said`, `carry_out`, `play`, `cut`.
+#![tactic(auto)]
+
 mod carry;
 mod print;
 mod reading;
@@ -29,7 +31,7 @@ const ROOMY: usize = 64;
 
 // What a record asks for: a card with the identifier in its body, a frame, nothing that is known, or
 // more bytes than there are.
-#[derive(Drop)]
+#[derive(Clone, Copy)]
 pub enum Asked {
     Card,
     Frame,
@@ -38,7 +40,7 @@ pub enum Asked {
 }
 
 // What is kept from record to record: the bus, and how many frames there were.
-#[derive(Drop)]
+#[derive(Clone, Copy)]
 pub struct Progress {
     pub bus: Bus,
     pub count: u64,
@@ -46,7 +48,7 @@ pub struct Progress {
 
 // What a record, or a piece of a script, leaves: the bytes of the script that it took, and those of
 // its text at the front of the output; how the script goes on.
-#[derive(Drop)]
+#[derive(Clone, Copy)]
 pub struct Said {
     pub progress: Progress,
     pub used: usize,

@@ -5,6 +5,8 @@
 //
 // Offers: `frame`; `Answered`, `heard`, what it does once what is lent was found right and the frame read;
 // `Call`, `step`. `card_blocks` has the blocks, and the answer of a call.
+#![tactic(auto)]
+
 mod frames;
 
 ghost use Rattle.std.specs.Prelude.{◌≡◌, length};
@@ -16,7 +18,7 @@ use card_record::{Card, Link, Mode, Sent};
 pub use frames::{frame, heard};
 
 // What a command leaves at a card: mode and link, and what is sent.
-#[derive(Drop)]
+#[derive(Clone, Copy)]
 pub struct Answered {
     pub mode: Mode,
     pub link: Link,
@@ -25,7 +27,7 @@ pub struct Answered {
 
 // Everything that can happen to a made card. A frame comes with whether the card wins the line in CMD2, as one
 // that is alone on it does, and whether the card's select line is low.
-#[derive(Drop)]
+#[derive(Clone, Copy)]
 pub enum Call {
     Frame { wins: bool, selected: bool },
     BlockIn,

@@ -5,6 +5,8 @@
 // Offers: `Outcome`, `Reply`, `Stepped`, `refuse`, `done`; `block_in`, `block_out`; `taken_in` and
 // `given_out`, what these two do once what is lent was found right. The other types are what judging
 // gives: the definitions name them.
+#![tactic(auto)]
+
 mod blocks_in;
 mod blocks_out;
 mod framing;
@@ -18,7 +20,7 @@ pub use replies::{done, refuse};
 
 // What became of a call: it was carried out; it wrote so many bytes at the front of the output; the
 // refusal.
-#[derive(Drop)]
+#[derive(Clone, Copy)]
 pub enum Outcome {
     Done,
     Wrote(usize),
@@ -26,21 +28,21 @@ pub enum Outcome {
 }
 
 // A call's answer: what became of it, and what the card sends.
-#[derive(Drop)]
+#[derive(Clone, Copy)]
 pub struct Reply {
     pub outcome: Outcome,
     pub sent: Sent,
 }
 
 // The next record and the answer.
-#[derive(Drop)]
+#[derive(Clone, Copy)]
 pub struct Stepped {
     pub card: Card,
     pub reply: Reply,
 }
 
 // What a block is to change in what is lent: nothing; a sector, written; everything, erased.
-#[derive(Drop)]
+#[derive(Clone, Copy)]
 pub enum Storing {
     Nothing,
     Sector(u32),
@@ -48,7 +50,7 @@ pub enum Storing {
 }
 
 // A block judged: the answer, and what is to be stored.
-#[derive(Drop)]
+#[derive(Clone, Copy)]
 pub struct BlockJudged {
     pub stepped: Stepped,
     pub storing: Storing,
@@ -56,7 +58,7 @@ pub struct BlockJudged {
 
 // What goes out: nothing; bytes of memory from a place on; the protection bits from a group on; a
 // register.
-#[derive(Drop)]
+#[derive(Clone, Copy)]
 pub enum Sending {
     Nothing,
     Part { at: u32, length: u16 },
@@ -66,7 +68,7 @@ pub enum Sending {
 }
 
 // A block out judged: the answer, and what goes out.
-#[derive(Drop)]
+#[derive(Clone, Copy)]
 pub struct OutJudged {
     pub stepped: Stepped,
     pub sending: Sending,

@@ -4,6 +4,8 @@
 //
 // Offers: `Registers`, `Link`, `Mode`, `Card`; `size`, `csd_protects`, `read_length`, `crosses`, `fresh`,
 // `mmc_mode`; `power_on`, `work_done`; `Making`, `Made`, `make`, `refused_make`; `Sent`, `write_sent`.
+#![tactic(auto)]
+
 mod sending;
 
 ghost use Rattle.std.specs.Prelude.{◌≡◌, length};
@@ -20,7 +22,7 @@ use tags::Tags;
 
 // What a card is made with and keeps: CID, CSD, OCR, and the size of its memory, in protection
 // groups, so that every size is a multiple of 8,192.
-#[derive(Drop)]
+#[derive(Clone, Copy)]
 pub struct Registers {
     pub cid: [u8; 16],
     pub csd: [u8; 16],
@@ -30,7 +32,7 @@ pub struct Registers {
 
 // What commands change: the state with what it waits for, the card's address on the bus, the block
 // length, the error bits that wait to be reported, the erase tags.
-#[derive(Drop)]
+#[derive(Clone, Copy)]
 pub struct Link {
     pub state: State,
     pub address: u16,
@@ -41,13 +43,13 @@ pub struct Link {
 
 // How a card is spoken to: in MMC mode or in SPI, and there whether it checks CRCs. In MMC mode it
 // always does, and `checks` is off.
-#[derive(Drop)]
+#[derive(Clone, Copy)]
 pub struct Mode {
     pub spi: bool,
     pub checks: bool,
 }
 
-#[derive(Drop)]
+#[derive(Clone, Copy)]
 pub struct Card {
     pub registers: Registers,
     pub lock: Lock,
@@ -56,14 +58,14 @@ pub struct Card {
 }
 
 // Whether a card was made, or the refusal.
-#[derive(Drop)]
+#[derive(Clone, Copy)]
 pub enum Making {
     Done,
     Refused(Refusal),
 }
 
 // A made card; a refused make gives one fixed record.
-#[derive(Drop)]
+#[derive(Clone, Copy)]
 pub struct Made {
     pub card: Card,
     pub making: Making,
@@ -71,7 +73,7 @@ pub struct Made {
 
 // What a card sends: nothing; in MMC mode R1, R2 with the CID or the CSD, R3; in SPI R1, R2, R3 with
 // R1's byte in front of the OCR, and a data response.
-#[derive(Drop)]
+#[derive(Clone, Copy)]
 pub enum Sent {
     Nothing,
     Status { index: u8, status: u32 },

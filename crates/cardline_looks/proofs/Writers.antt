@@ -1,12 +1,9 @@
 -- Laws of a writer's answer with the output that it was lent.
---   frame_text_lem, block_text_lem    the line of a written frame and of a written block
---   room_length               the length of the output that is lent
+--   frame_text_lem, block_text_lem   the line of a written frame and of a written block
 -- Assumes nothing.
 use mathlib.Core.Path.{◌≡◌, ap, ◌∙◌}
 use mathlib.Core.List.{List}
-use Prim.Native.Nat.{ℕ, ◌-◌, ◌<◌}
-use native.Mathlib.Omega.{arith}
-use lib.ListN.{length, take, length-take}
+use Prim.Native.Nat.{ℕ}
 use Rattle.base.specs.Output.{laid}
 use Rattle.base.specs.declared.Written.{Written}
 use Rattle.cardline_looks.specs.Words.{frame_word, data_word}
@@ -31,6 +28,3 @@ block_text_lem count payload blank before after w eb ew ea =
     ap (written_text count data_word w) ea
     ∙ ap (λ (x : Written). written_text count data_word x (laid x (block_of payload) before)) ew
     ∙ ap (λ (l : List ℕ). written_text count data_word (block_written payload l) (laid (block_written payload l) (block_of payload) l)) eb
-
-pub room_length : (l : List ℕ) (n room : ℕ) → 65536 ≡ length l → n ≡ room → n < 65536 → length (take (n - 0) l) ≡ room
-room_length l n room el en h = omega (arith, length-take (n - 0) l)

@@ -3,6 +3,8 @@
 // No call has a `requires`: a line is written as far as there is room, and none is longer than `ROOMY`.
 //
 // Offers: `ROOMY`; `look_line`, `set_map`, `sizes_looked`; `wire_line`, `space`; `lines`.
+#![tactic(auto)]
+
 pub mod lines;
 mod looks;
 mod wires;

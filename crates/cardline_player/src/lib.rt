@@ -4,6 +4,8 @@
 // promised here; that it arrives is the operating system's.
 //
 // Offers: `Turned`, `advance`.
+#![tactic(auto)]
+
 ghost use Rattle.std.specs.Prelude.{◌≡◌, ◌++◌, ◌+◌, ◌-◌, ◌<◌, min, length, drop};
 ghost use Rattle.cardline_player.specs.Turn.{at_hand, left_by, buffer_by, turned_by, advanced_of, buffer_of};
 ghost use Rattle.cardline_records.specs.Record.{text_of, buffers_after};
@@ -17,7 +19,7 @@ use text::parts::part;
 
 // What a turn leaves: the bytes of the buffer that are at hand, from one place to another; those of
 // the line at the front of the output; how the script goes on.
-#[derive(Drop)]
+#[derive(Clone, Copy)]
 pub struct Turned {
     pub progress: Progress,
     pub from: usize,

@@ -4,7 +4,6 @@
 --   front_is           the first bytes of two buffers, as they are lent
 --   stepped_answer, stepped_lent, stepped_output    a call that is lent them
 --   told_record, told_text    what a call leaves and its line, from what it answered
---   called_record, called_lent, called_text         the same call, said otherwise
 -- Assumes nothing.
 use mathlib.Core.Path.{◌≡◌, sym, ap, ap₂, ◌∙◌}
 use mathlib.Core.Bool.{true, false}
@@ -95,15 +94,3 @@ module _ (card : Card) (lent : Sizes) (call : Call) (input : List ℕ) (buffers 
   pub told_text : (count : ℕ) → reply_text count call card.registers r.reply q ≡ call_text count card lent call input buffers room
   unfolding call_text
   told_text count = ap₂ (λ (x : Stepped) (l : List ℕ). reply_text count call card.registers x.reply l) told_step told_output
-
--- the same call, said otherwise
-module _ (card : Card) (lent : Sizes) (call call' : Call) (input input' : List ℕ) (buffers : Lent) (ec : call ≡ call') (ei : input ≡ input') where
-  pub called_record : (room room' : ℕ) (c : Card) → room ≡ room' → c ≡ (step_lent card lent call input buffers room).card
-      → c ≡ (step_lent card lent call' input' buffers room').card
-  called_record room room' c er e = rw (ec, ei, er) at e
-
-  pub called_lent : (l : Lent) → l ≡ buffers_lent card lent call input buffers → l ≡ buffers_lent card lent call' input' buffers
-  called_lent l e = rw (ec, ei) at e
-
-  pub called_text : (count room room' : ℕ) → room ≡ room' → call_text count card lent call input buffers room ≡ call_text count card lent call' input' buffers room'
-  called_text count room room' er = rw (ec, ei, er)

@@ -1,4 +1,3 @@
-pub mod Carrying
 pub mod Lending
 pub mod Lengths
 pub mod Pieces

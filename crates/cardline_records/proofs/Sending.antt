@@ -1,7 +1,7 @@
 -- Laws of what a card sends.
---   sent_text_lem, unsent_text        its line, written and not
---   sent_beside_lem, unsent_beside    its bytes beside a call's answer, written and not
---   beside_most                   which are at most 17
+--   sent_text_lem      its line, once it is written
+--   sent_beside_lem    its bytes beside a call's answer, once they are written
+--   beside_most        which are at most 17
 -- Assumes nothing.
 use mathlib.Core.Path.{◌≡◌, sym, ap, ◌∙◌}
 use mathlib.Core.Bool.{true, false}
@@ -18,7 +18,6 @@ use Rattle.base.specs.Refusals.{by}
 use Rattle.base.specs.declared.Refusal.{Refusal}
 use Rattle.base.specs.declared.Written.{Written}
 use Rattle.base.specs.declared.Written.TheVariants.{Bytes, Refused}
-use Rattle.cardline_looks.specs.Lines.{refused_line}
 use Rattle.cardline_records.specs.Calls.{shown_text, sent_line, beside_of, beside_bytes}
 use Rattle.card_record.specs.Sending.{sent_bytes, sent_written}
 use Rattle.card_record.specs.declared.Sent.{Sent}
@@ -62,18 +61,11 @@ module _ (count : ℕ) (registers : Registers) (sent : Sent) (out after : List �
       ap (shown_text count) (sent_front registers sent out after n w ew en ea)
       ∙ ap (λ (x : Written). sent_line count x (sent_bytes registers sent)) (sym en ∙ ew)
 
-  pub unsent_text : (refusal : Refusal) → w ≡ Refused refusal
-      → refused_line count refusal [] ≡ sent_line count (sent_written registers sent out) (sent_bytes registers sent)
-  unsent_text refusal er = ap (λ (x : Written). sent_line count x (sent_bytes registers sent)) (sym er ∙ ew)
-
 module _ (registers : Registers) (sent : Sent) (out after : List ℕ) (w : Written) (ew : w ≡ sent_written registers sent out) where
   pub sent_beside_lem : (n : ℕ) → w ≡ Bytes n → after ≡ laid w (sent_bytes registers sent) out
       → take n after ≡ beside_of (sent_written registers sent out) (sent_bytes registers sent)
   sent_beside_lem n en ea =
       sent_front registers sent out after n w ew en ea ∙ ap (λ (x : Written). beside_of x (sent_bytes registers sent)) (sym en ∙ ew)
-
-  pub unsent_beside : (refusal : Refusal) → w ≡ Refused refusal → [] ≡ beside_of (sent_written registers sent out) (sent_bytes registers sent)
-  unsent_beside refusal er = ap (λ (x : Written). beside_of x (sent_bytes registers sent)) (sym er ∙ ew)
 
 fits_most : (bytes out : List ℕ) → length (beside_of (fits bytes out) bytes) ≤ length out
 fits_most bytes out =

@@ -36,7 +36,7 @@ fn lent_step(
 }
 
 // What a call leaves: the next record, and the bytes of its line.
-#[derive(Drop)]
+#[derive(Clone, Copy)]
 pub struct Left {
     pub card: Card,
     pub wrote: usize,

@@ -8,6 +8,8 @@
 // `carry_out` has no `requires`.
 //
 // Offers: `Progress`, `fresh`; `Said`, `carry_out`; `cut`.
+#![tactic(auto)]
+
 mod answers;
 mod calls;
 mod carry;
@@ -31,7 +33,7 @@ use text::lines::plain;
 
 // What is kept from record to record: the card, if one was made; the sizes of its own memory and
 // map, and of what its calls are lent; how many records were carried out since the make.
-#[derive(Drop)]
+#[derive(Clone, Copy)]
 pub struct Progress {
     pub card: Card,
     pub made: bool,
@@ -42,7 +44,7 @@ pub struct Progress {
 
 // What a record leaves: the bytes of the script that it took, and those of its line at the front of
 // the output; how the script goes on.
-#[derive(Drop)]
+#[derive(Clone, Copy)]
 pub struct Said {
     pub progress: Progress,
     pub used: usize,

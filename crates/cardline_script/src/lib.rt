@@ -3,6 +3,8 @@
 //
 // Offers: `Sizes`, `Stop`, `Making`, `Calling`, `Looking`, `Wiring`, `Going`, `Asked`; `read`, `used`;
 // and `numbers::four`.
+#![tactic(auto)]
+
 mod kinds;
 mod lengths;
 pub mod numbers;
@@ -18,14 +20,14 @@ pub use lengths::used;
 use numbers::{byte, two};
 
 // The bytes of a memory and of a map.
-#[derive(Drop)]
+#[derive(Clone, Copy)]
 pub struct Sizes {
     pub memory: u32,
     pub map: u8,
 }
 
 // Why a script goes no further.
-#[derive(Drop)]
+#[derive(Clone, Copy)]
 pub enum Stop {
     NoCard,
     BadKind,
@@ -33,7 +35,7 @@ pub enum Stop {
 }
 
 // A make: the memory's size and what it is filled with, the sizes of the map and the password.
-#[derive(Drop)]
+#[derive(Clone, Copy)]
 pub struct Making {
     pub memory: u32,
     pub fill: u8,
@@ -43,7 +45,7 @@ pub struct Making {
 
 // A call of the card: a frame of so many bytes with its select line low or high, a block in of so many,
 // a block out into so many.
-#[derive(Drop)]
+#[derive(Clone, Copy)]
 pub enum Calling {
     Frame { length: u8, selected: bool },
     BlockIn(u16),
@@ -53,7 +55,7 @@ pub enum Calling {
 }
 
 // No call: what is shown of the card and of its mode, what is lent from now on, and an entry of the map.
-#[derive(Drop)]
+#[derive(Clone, Copy)]
 pub enum Looking {
     Card,
     Mode,
@@ -63,7 +65,7 @@ pub enum Looking {
 }
 
 // A call of the wire, which concerns no card.
-#[derive(Drop)]
+#[derive(Clone, Copy)]
 pub enum Wiring {
     Frame { index: u8, argument: u32, room: u8 },
     Block { length: u16, room: u16 },
@@ -71,7 +73,7 @@ pub enum Wiring {
 }
 
 // What a record of a made card asks for.
-#[derive(Drop)]
+#[derive(Clone, Copy)]
 pub enum Going {
     Call(Calling),
     Look(Looking),
@@ -79,7 +81,7 @@ pub enum Going {
 }
 
 // What a record asks for: more bytes, where it is not whole yet.
-#[derive(Drop)]
+#[derive(Clone, Copy)]
 pub enum Asked {
     More,
     Stop(Stop),

@@ -6,6 +6,8 @@
 // Offers: `Met`, `Change`, `Acted`, `act`; a command in its two parts, `Decided`, `decide`,
 // `leaves_alone`, and `Commanded`, `follow`; how MMC mode answers, `Response`, `response_of`, `respond`,
 // `left`; `damaged`.
+#![tactic(auto)]
+
 mod arguments;
 mod obey;
 
@@ -21,7 +23,7 @@ use status::{ErrorBit, Errors};
 
 // What a command meets at a card beside the link: whether the card would win the line in CMD2, the
 // lock flag, the size in protection groups, and the OCR.
-#[derive(Drop)]
+#[derive(Clone, Copy)]
 pub struct Met {
     pub wins: bool,
     pub locked: bool,
@@ -31,7 +33,7 @@ pub struct Met {
 
 // What a command changes in what is lent: nothing; a protection group set or cleared; the tagged
 // sectors, erased.
-#[derive(Drop)]
+#[derive(Clone, Copy)]
 pub enum Change {
     Nothing,
     Protect { group: u32, on: bool },
@@ -40,7 +42,7 @@ pub enum Change {
 
 // What a taken command does, before any answer: the next link, its error bits as they were; the
 // pending error bits with those that the command sets at once; what is to change in what is lent.
-#[derive(Drop)]
+#[derive(Clone, Copy)]
 pub struct Acted {
     pub link: Link,
     pub errors: Errors,
@@ -48,14 +50,14 @@ pub struct Acted {
 }
 
 // The row of the table of moves that a command falls in at a card, and where it leads from there.
-#[derive(Drop)]
+#[derive(Clone, Copy)]
 pub struct Decided {
     pub row: Row,
     pub next: Move,
 }
 
 // What a command leaves: the link, what is sent, and what is to change in what is lent.
-#[derive(Drop)]
+#[derive(Clone, Copy)]
 pub struct Commanded {
     pub link: Link,
     pub sent: Sent,
@@ -63,7 +65,7 @@ pub struct Commanded {
 }
 
 // The column "Answer" of the table of moves.
-#[derive(Drop)]
+#[derive(Clone, Copy)]
 pub enum Response {
     Nothing,
     R1,

@@ -3,6 +3,8 @@
 // 256 bytes. Callers see the remainder of the division and nothing of how it is worked.
 //
 // Offers: `word`; `crc7_frame`, `crc7`, `crc16`.
+#![tactic(auto)]
+
 mod remainders16;
 
 ghost use Rattle.std.specs.Prelude.{◌≡◌, [], ◌∷◌, ◌++◌, ◌*◌, ◌/◌, ◌%◌};

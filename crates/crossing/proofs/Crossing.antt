@@ -122,7 +122,7 @@ crossing card within =
       flag_crosses card.lock.locked,
       mod-eq_of_lt within.link.address,
       mod-eq_of_lt within.link.length,
-      mod-eq_of_lt within.password_length_lem,
+      mod-eq_of_lt within.password_length,
       mod-eq_of_lt within.groups,
     )
 

@@ -182,5 +182,5 @@ pub record LinkWithin (link : Link) : Type 0 where
 
 pub record Within (card : Card) : Type 0 where
   pub link : LinkWithin card.link
-  pub password_length_lem : card.lock.length < 256
+  pub password_length : card.lock.length < 256
   pub groups : card.registers.groups < 65536

@@ -8,6 +8,8 @@
 //
 // Offers: `card_of`, `link_of`, `mode_of`, `registers_of`, `groups_of`, `locked_of`; `tell_card`,
 // `tell_errors`, `tell_link`, `tell_link_and_lock`.
+#![tactic(auto)]
+
 mod from_numbers;
 mod to_numbers;
 

@@ -159,7 +159,7 @@ module _ (card : Card) (block : List ℕ) (lent : Lent) (out : List ℕ) (incomi
   judged : block_judged card block (seen lent) ≡ unless long (wrong_length card incoming) (unless first (wrong_length card incoming) checked)
   unfolding block_judged awaited_judged checked_judged
   judged =
-      ap (λ (l : Lending). once_lent l (unread card) (state_judged card card.link.state block (seen lent).map)) on.lent_right_lem
+      ap (λ (l : Lending). once_lent l (unread card) (state_judged card card.link.state block (seen lent).map)) on.lent_right
       ∙ ap (λ (s : State). state_judged card s block (seen lent).map) on.awaiting
       ∙ ap (λ (t : Bool). unless long (wrong_length card incoming) (unless first (wrong_length card incoming) (unless t (block_refused card incoming (by 17) None) carried)))
       (by_three card.mode.spi card.mode.checks (eqb (crc_in inner) (crc16 (payload_of inner))))

@@ -80,7 +80,7 @@ module _ (card : Card) (wins selected : Bool) (frame : List ℕ) (lent : Lent) (
       let damaged : Heard = damaged_of card.mode selected card.link in
       let given : Heard = heard_of card.mode selected card.link (met_by card wins) index argument in
       outcome_told card wins selected frame (seen lent)
-      ∙ ap outcome_of (judged_as card wins selected frame (seen lent) on.lent_right_lem (Framed index argument right) on.framing)
+      ∙ ap outcome_of (judged_as card wins selected frame (seen lent) on.lent_right (Framed index argument right) on.framing)
       ∙ ap (λ (t : Bool). outcome_of (unless t (commanded card (Refused (by 3)) damaged) (commanded card Done given))) (passes_not card.mode index right)
       ∙ three_or_done three card damaged given
 
@@ -90,7 +90,7 @@ module _ (card : Card) (wins selected : Bool) (frame : List ℕ) (lent : Lent) (
   crc_unread counts =
       let damaged : Heard = damaged_of card.mode selected card.link in
       let given : Heard = heard_of card.mode selected card.link (met_by card wins) index argument in
-      judged_as card wins selected frame (seen lent) on.lent_right_lem (Framed index argument right) on.framing
+      judged_as card wins selected frame (seen lent) on.lent_right (Framed index argument right) on.framing
       ∙ ap (λ (t : Bool). unless t (commanded card (Refused (by 3)) damaged) (commanded card Done given))
       (passes_not card.mode index right ∙ ap not counts)
 

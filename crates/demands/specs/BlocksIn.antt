@@ -15,7 +15,7 @@ use Rattle.wire.specs.Blocks.{payload_of, crc_in}
 
 -- a block that 12 and 15 let on: the card is lent what is its own, and awaits a block
 pub record Awaited (card : Card) (lent : Lent) (incoming : Incoming) : Type 0 where
-  pub lent_right_lem : lending_of (seen lent) card.registers.groups ≡ Right
+  pub lent_right : lending_of (seen lent) card.registers.groups ≡ Right
   pub awaiting : card.link.state ≡ Rcv incoming
 
 -- whether it is then refused 16: its length is not the awaited one and two more, for its CRC16; in SPI not three more, or "start byte FE

@@ -30,7 +30,7 @@ use Rattle.demands.specs.Refused.{inactive, noted, cleared, r1_from}
 
 -- a frame that 12, 1 and 2 let on: it has an index, an argument, and a CRC7 that is right or wrong
 pub record LetOn (card : Card) (frame : List ℕ) (lent : Lent) (index argument : ℕ) (right : Bool) : Type 0 where
-  pub lent_right_lem : lending_of (seen lent) card.registers.groups ≡ Right
+  pub lent_right : lending_of (seen lent) card.registers.groups ≡ Right
   pub framing : framing_of frame ≡ Framed index argument right
 
 -- whether it is then refused 3: a wrong CRC7, and in SPI "3 (CMD0 apart) .. come[s] only with CRC on", while "CMD0 is always checked"

@@ -29,35 +29,27 @@ pub extern "C" fn mmc_parts_block_in(
     response: &mut [u8; 1],
     sent: &mut usize,
 ) -> u8
-    ensures left_1 { let card = card_of numbers.old cid.now csd.now password.old in
+    ensures answer { let card = card_of numbers.old cid.now csd.now password.old in
         let lent = lent_of memory.old map.old in
         let stepped = (block_judged card block.now (seen lent)).stepped in
-        let next = stepped.card in
-        let bytes = sent_bytes card.registers stepped.reply.sent in
         result ≡ outcome_number stepped.reply.outcome }
-    ensures left_2 { let card = card_of numbers.old cid.now csd.now password.old in
+    ensures numbers { let card = card_of numbers.old cid.now csd.now password.old in
         let lent = lent_of memory.old map.old in
         let stepped = (block_judged card block.now (seen lent)).stepped in
         let next = stepped.card in
-        let bytes = sent_bytes card.registers stepped.reply.sent in
         (numbers.new ≡ numbers_after result (link_numbers next.link ++ mode_numbers next.mode ++ lock_numbers next.lock) numbers.old)
         × (card_of numbers.new cid.now csd.now password.new ≡ next) }
-    ensures left_3 { let card = card_of numbers.old cid.now csd.now password.old in
+    ensures password { let card = card_of numbers.old cid.now csd.now password.old in
         let lent = lent_of memory.old map.old in
         let stepped = (block_judged card block.now (seen lent)).stepped in
         let next = stepped.card in
-        let bytes = sent_bytes card.registers stepped.reply.sent in
         password.new ≡ next.lock.password }
-    ensures left_4 { let card = card_of numbers.old cid.now csd.now password.old in
+    ensures lent { let card = card_of numbers.old cid.now csd.now password.old in
         let lent = lent_of memory.old map.old in
-        let stepped = (block_judged card block.now (seen lent)).stepped in
-        let next = stepped.card in
-        let bytes = sent_bytes card.registers stepped.reply.sent in
         lent_of memory.new map.new ≡ lent_after card BlockIn block.now lent }
-    ensures left_5 { let card = card_of numbers.old cid.now csd.now password.old in
+    ensures sent { let card = card_of numbers.old cid.now csd.now password.old in
         let lent = lent_of memory.old map.old in
         let stepped = (block_judged card block.now (seen lent)).stepped in
-        let next = stepped.card in
         let bytes = sent_bytes card.registers stepped.reply.sent in
         (response.new ≡ fronted bytes response.old) × (sent.new ≡ length bytes) }
 {
@@ -100,20 +92,19 @@ pub extern "C" fn mmc_parts_block_out(
     out: &mut [u8],
     written: &mut usize,
 ) -> u8
-    ensures left_1 { let card = card_of numbers.old cid.now csd.now password.now in
+    ensures answer { let card = card_of numbers.old cid.now csd.now password.now in
         let lent = lent_of memory.now map.now in
         let stepped = (out_judged card (seen lent) (length out.old)).stepped in
         result ≡ outcome_number stepped.reply.outcome }
-    ensures left_2 { let card = card_of numbers.old cid.now csd.now password.now in
+    ensures numbers { let card = card_of numbers.old cid.now csd.now password.now in
         let lent = lent_of memory.now map.now in
         let stepped = (out_judged card (seen lent) (length out.old)).stepped in
         (numbers.new ≡ numbers_after result (link_numbers stepped.card.link ++ mode_numbers stepped.card.mode) numbers.old)
         × (card_of numbers.new cid.now csd.now password.now ≡ stepped.card) }
-    ensures left_3 { let card = card_of numbers.old cid.now csd.now password.now in
+    ensures output { let card = card_of numbers.old cid.now csd.now password.now in
         let lent = lent_of memory.now map.now in
-        let stepped = (out_judged card (seen lent) (length out.old)).stepped in
         out.new ≡ output_of card BlockOut lent out.old }
-    ensures left_4 { let card = card_of numbers.old cid.now csd.now password.now in
+    ensures written { let card = card_of numbers.old cid.now csd.now password.now in
         let lent = lent_of memory.now map.now in
         let stepped = (out_judged card (seen lent) (length out.old)).stepped in
         written.new ≡ wrote_of stepped.reply.outcome }

@@ -27,21 +27,16 @@ pub extern "C" fn mmc_parts_make(
     memory: &[u8],
     map: &[u8],
 ) -> u8
-    ensures left_1 { let made = made_of identifier.now specifics.now ocr secret.now
-        (length memory.now) map.now in
+    ensures answer { let made = made_of identifier.now specifics.now ocr secret.now (length memory.now) map.now in
         result ≡ making_number made.making }
-    ensures left_2 { let made = made_of identifier.now specifics.now ocr secret.now
-        (length memory.now) map.now in
+    ensures numbers { let made = made_of identifier.now specifics.now ocr secret.now (length memory.now) map.now in
         (numbers.new ≡ numbers_of made.card)
         × (card_of numbers.new cid.new csd.new password.new ≡ made.card) }
-    ensures left_3 { let made = made_of identifier.now specifics.now ocr secret.now
-        (length memory.now) map.now in
+    ensures cid { let made = made_of identifier.now specifics.now ocr secret.now (length memory.now) map.now in
         cid.new ≡ made.card.registers.cid }
-    ensures left_4 { let made = made_of identifier.now specifics.now ocr secret.now
-        (length memory.now) map.now in
+    ensures csd { let made = made_of identifier.now specifics.now ocr secret.now (length memory.now) map.now in
         csd.new ≡ made.card.registers.csd }
-    ensures left_5 { let made = made_of identifier.now specifics.now ocr secret.now
-        (length memory.now) map.now in
+    ensures password { let made = made_of identifier.now specifics.now ocr secret.now (length memory.now) map.now in
         password.new ≡ made.card.lock.password }
 {
     let made = card_record::make(*identifier, *specifics, ocr, secret, memory, map);

@@ -35,11 +35,11 @@ fn met_of(numbers: [u32; 13], wins: bool) -> Met
 // A damaged frame at the card: the number of the error bits that it leaves, told in its place, and what
 // is sent at the front of `answer`. The answer is how many bytes that is.
 fn tell_damaged(numbers: &mut [u32; 13], selected: bool, answer: &mut [u8; 17]) -> usize
-    ensures left_1 { let damaged = damaged_of (mode_of numbers.old) selected (link_of numbers.old) in
+    ensures answer { let damaged = damaged_of (mode_of numbers.old) selected (link_of numbers.old) in
         result ≡ length (byte_sent damaged.sent) }
-    ensures left_2 { let damaged = damaged_of (mode_of numbers.old) selected (link_of numbers.old) in
+    ensures numbers { let damaged = damaged_of (mode_of numbers.old) selected (link_of numbers.old) in
         (numbers.new ≡ set numbers.old 4 damaged.link.errors.bits) × (link_of numbers.new ≡ damaged.link) }
-    ensures left_3 { let damaged = damaged_of (mode_of numbers.old) selected (link_of numbers.old) in
+    ensures sent { let damaged = damaged_of (mode_of numbers.old) selected (link_of numbers.old) in
         answer.new ≡ fronted (byte_sent damaged.sent) answer.old }
 {
     let mode = mode_of(*numbers);
@@ -81,7 +81,7 @@ fn hear(
     answer: &mut [u8; 17],
 ) -> usize
     requires { index ≤ 63 }
-    ensures left_1 { let mode = mode_of numbers.old in
+    ensures answer { let mode = mode_of numbers.old in
         let link = link_of numbers.old in
         let met = met_at numbers.old wins in
         let whole = csd_protects csd.now in
@@ -89,24 +89,21 @@ fn hear(
         let heard = command_heard mode selected link met whole index argument (seen lent) in
         let bytes = sent_bytes (registers_of numbers.old cid.now csd.now) heard.sent in
         result ≡ length bytes }
-    ensures left_2 { let mode = mode_of numbers.old in
+    ensures numbers { let mode = mode_of numbers.old in
         let link = link_of numbers.old in
         let met = met_at numbers.old wins in
         let whole = csd_protects csd.now in
         let lent = lent_of memory.old map.old in
         let heard = command_heard mode selected link met whole index argument (seen lent) in
-        let bytes = sent_bytes (registers_of numbers.old cid.now csd.now) heard.sent in
         (numbers.new ≡ link_numbers heard.link ++ mode_numbers heard.mode ++ drop 9 numbers.old)
         × ((link_of numbers.new ≡ heard.link) × (mode_of numbers.new ≡ heard.mode)) }
-    ensures left_3 { let mode = mode_of numbers.old in
+    ensures lent { let mode = mode_of numbers.old in
         let link = link_of numbers.old in
         let met = met_at numbers.old wins in
         let whole = csd_protects csd.now in
         let lent = lent_of memory.old map.old in
-        let heard = command_heard mode selected link met whole index argument (seen lent) in
-        let bytes = sent_bytes (registers_of numbers.old cid.now csd.now) heard.sent in
         lent_of memory.new map.new ≡ changed link.tags whole (heard_of mode selected link met index argument).change lent }
-    ensures left_4 { let mode = mode_of numbers.old in
+    ensures sent { let mode = mode_of numbers.old in
         let link = link_of numbers.old in
         let met = met_at numbers.old wins in
         let whole = csd_protects csd.now in
@@ -148,23 +145,19 @@ pub extern "C" fn mmc_parts_frame(
     answer: &mut [u8; 17],
     sent: &mut usize,
 ) -> u8
-    ensures left_1 { let card = card_of numbers.old cid.now csd.now password.now in
+    ensures answer { let card = card_of numbers.old cid.now csd.now password.now in
         let lent = lent_of memory.old map.old in
         let stepped = frame_stepped card (won_by won) (selected_by selected) frame.now (seen lent) in
-        let bytes = sent_bytes card.registers stepped.reply.sent in
         result ≡ outcome_number stepped.reply.outcome }
-    ensures left_2 { let card = card_of numbers.old cid.now csd.now password.now in
+    ensures numbers { let card = card_of numbers.old cid.now csd.now password.now in
         let lent = lent_of memory.old map.old in
         let stepped = frame_stepped card (won_by won) (selected_by selected) frame.now (seen lent) in
-        let bytes = sent_bytes card.registers stepped.reply.sent in
         (numbers.new ≡ frame_numbers result stepped.card numbers.old)
         × (card_of numbers.new cid.now csd.now password.now ≡ stepped.card) }
-    ensures left_3 { let card = card_of numbers.old cid.now csd.now password.now in
+    ensures lent { let card = card_of numbers.old cid.now csd.now password.now in
         let lent = lent_of memory.old map.old in
-        let stepped = frame_stepped card (won_by won) (selected_by selected) frame.now (seen lent) in
-        let bytes = sent_bytes card.registers stepped.reply.sent in
         lent_of memory.new map.new ≡ lent_after card (Frame (won_by won) (selected_by selected)) frame.now lent }
-    ensures left_4 { let card = card_of numbers.old cid.now csd.now password.now in
+    ensures sent { let card = card_of numbers.old cid.now csd.now password.now in
         let lent = lent_of memory.old map.old in
         let stepped = frame_stepped card (won_by won) (selected_by selected) frame.now (seen lent) in
         let bytes = sent_bytes card.registers stepped.reply.sent in

@@ -6,6 +6,8 @@
 // Offers: `mmc_crc7`, `mmc_crc16`, `mmc_read_frame`, `mmc_write_command`, `mmc_write_block`,
 // `mmc_check_block`; `mmc_parts_make`, `mmc_parts_power_on`, `mmc_parts_work_done`,
 // `mmc_parts_frame`, `mmc_parts_block_in`, `mmc_parts_block_out`.
+#![tactic(auto)]
+
 mod answers;
 mod blocks;
 mod calls;
@@ -43,11 +45,11 @@ pub extern "C" fn mmc_crc16(bytes: &[u8]) -> u16
 // A command frame read: 1, 2, 3. A refused frame leaves both lent numbers as they were.
 #[unsafe(no_mangle)]
 pub extern "C" fn mmc_read_frame(frame: &[u8], index: &mut u8, argument: &mut u32) -> u8
-    ensures left_1 { let read = frame_of frame.now in
+    ensures answer { let read = frame_of frame.now in
         result ≡ frame_number read }
-    ensures left_2 { let read = frame_of frame.now in
+    ensures index { let read = frame_of frame.now in
         index.new ≡ index_read read index.old }
-    ensures left_3 { let read = frame_of frame.now in
+    ensures argument { let read = frame_of frame.now in
         argument.new ≡ argument_read read argument.old }
 {
     let read = wire::read_frame(frame);
@@ -77,10 +79,10 @@ fn number_written(written: Written) -> u8
 // A command frame written to the front of `out`: 4, 6.
 #[unsafe(no_mangle)]
 pub extern "C" fn mmc_write_command(index: u8, argument: u32, out: &mut [u8]) -> u8
-    ensures left_1 { let frame = command_frame index argument in
+    ensures answer { let frame = command_frame index argument in
         let written = indexed index frame out.old in
         result ≡ written_number written }
-    ensures left_2 { let frame = command_frame index argument in
+    ensures output { let frame = command_frame index argument in
         let written = indexed index frame out.old in
         out.new ≡ laid written frame out.old }
 {
@@ -91,9 +93,9 @@ pub extern "C" fn mmc_write_command(index: u8, argument: u32, out: &mut [u8]) ->
 // A block written to the front of `out`: 5, 6.
 #[unsafe(no_mangle)]
 pub extern "C" fn mmc_write_block(payload: &[u8], out: &mut [u8]) -> u8
-    ensures left_1 { let written = block_written payload.now out.old in
+    ensures answer { let written = block_written payload.now out.old in
         result ≡ written_number written }
-    ensures left_2 { let written = block_written payload.now out.old in
+    ensures output { let written = block_written payload.now out.old in
         out.new ≡ laid written (block_of payload.now) out.old }
 {
     let written = wire::write_block(payload, out);

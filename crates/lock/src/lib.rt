@@ -3,6 +3,8 @@
 //
 // Offers: `Lock`, `no_password`, `powered`; `Making`, `Made`, `make`; `Operation`, `Answer`,
 // `Requested`, `request`.
+#![tactic(auto)]
+
 ghost use Rattle.std.specs.Prelude.{not, ◌≡◌, ◌+◌, ◌≤◌, length, take, drop};
 ghost use Rattle.lock.specs.Passwords.{longest_password, stored, same, holding, no_password, flagged, powered_of, lock_made};
 ghost use Rattle.lock.specs.Requests.{asked_by, long_enough, new_of, settable, presented, allowed, request_failed, granted_if, erased_if, done_of, request_of};
@@ -10,7 +12,7 @@ ghost use Rattle.lock.specs.Requests.{asked_by, long_enough, new_of, settable, p
 use base::{Refusal, copy};
 
 // The password is the first `length` bytes; a length of 0 means none.
-#[derive(Drop)]
+#[derive(Clone, Copy)]
 pub struct Lock {
     pub password: [u8; 16],
     pub length: u8,
@@ -18,21 +20,21 @@ pub struct Lock {
 }
 
 // Whether a password was taken, or the refusal.
-#[derive(Drop)]
+#[derive(Clone, Copy)]
 pub enum Making {
     Done,
     Refused(Refusal),
 }
 
 // A record made from a password: without one if it was refused.
-#[derive(Drop)]
+#[derive(Clone, Copy)]
 pub struct Made {
     pub lock: Lock,
     pub making: Making,
 }
 
 // What a lock request asks for.
-#[derive(Drop)]
+#[derive(Clone, Copy)]
 pub enum Operation {
     Unlock,
     Set,
@@ -44,14 +46,14 @@ pub enum Operation {
 }
 
 // What became of a request. After `Erased` the caller fills the memory and clears the map.
-#[derive(Drop)]
+#[derive(Clone, Copy)]
 pub enum Answer {
     Granted,
     Erased,
     Failed,
 }
 
-#[derive(Drop)]
+#[derive(Clone, Copy)]
 pub struct Requested {
     pub lock: Lock,
     pub answer: Answer,

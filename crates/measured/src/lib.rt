@@ -2,6 +2,8 @@
 // links stands on this crate. Each call promises what the call behind it promises.
 //
 // Offers: `measured_fill`, `measured_read`, `measured_write`, `measured_erase`.
+#![tactic(auto)]
+
 ghost use Rattle.std.specs.Prelude.{◌≡◌, false, length};
 ghost use Rattle.store.specs.Erase.{erased, any_spared};
 ghost use Rattle.store.specs.Memory.{contents, inside, sector_written, part_read, all_erased};

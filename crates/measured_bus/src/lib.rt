@@ -3,6 +3,8 @@
 // `measured` does not depend on the bus beside it.
 //
 // Offers: `measured_rounds`.
+#![tactic(auto)]
+
 ghost use Rattle.std.specs.Prelude.{◌≡◌, ◌≤◌};
 ghost use Rattle.measured_bus.specs.Rounds.{cid_at, ready_card, bus_of, cmd2, cmd3, heard, after_rounds, answered_in, played_on, addresses_of};
 
@@ -11,7 +13,7 @@ use card_record::{Card, Link, Registers};
 use states::State;
 
 // A bus after rounds, and how many CMD2 got an answer.
-#[derive(Drop)]
+#[derive(Clone, Copy)]
 pub struct Played {
     pub bus: Bus,
     pub answered: usize,

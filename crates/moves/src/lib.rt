@@ -2,6 +2,8 @@
 // its index, the row of the table of moves that a command falls in, and the table itself.
 //
 // Offers: `Class`, `class_of`; `Received`, `Row`, `row_of`; `Move`, `next`.
+#![tactic(auto)]
+
 mod table;
 
 ghost use Rattle.std.specs.Prelude.{◌≡◌};
@@ -14,7 +16,7 @@ use states::Column;
 use table::{Entry, MOVES};
 
 // The standard's classes, as far as the base has commands of them.
-#[derive(Drop)]
+#[derive(Clone, Copy)]
 pub enum Class {
     Basic,
     BlockRead,
@@ -27,7 +29,7 @@ pub enum Class {
 
 // The rows of the table of moves: the lines of document 01's table in its order, with CMD0 and CMD4
 // in their places, a line with several outcomes in a row for each, and last what no line has.
-#[derive(Drop)]
+#[derive(Clone, Copy)]
 pub enum Row {
     // CMD0.
     GoIdleState,
@@ -69,7 +71,7 @@ pub enum Row {
 
 // What a row does in a state: nothing; nothing, and not for this card to judge; nothing but the
 // mark of an illegal command; a move.
-#[derive(Drop)]
+#[derive(Clone, Copy)]
 pub enum Move {
     Ignored,
     Silent,
@@ -79,7 +81,7 @@ pub enum Move {
 
 // A command as it meets a card: its index and argument, the card's address and OCR, and whether the
 // card would win the line in CMD2.
-#[derive(Drop)]
+#[derive(Clone, Copy)]
 pub struct Received {
     pub index: u8,
     pub argument: u32,

@@ -2,7 +2,7 @@
 // states. An entry is one byte and holds nothing.
 
 // The state that a command leads to, or the mark of one with no move.
-#[derive(Drop)]
+#[derive(Clone, Copy)]
 pub enum Entry {
     Idle,
     Ready,

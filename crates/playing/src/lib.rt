@@ -4,12 +4,14 @@
 // script played piece by piece is the script played at once.
 //
 // Offers: `Then`; `keep`.
+#![tactic(auto)]
+
 ghost use Rattle.std.specs.Prelude.{◌≡◌, ◌-◌, min, length};
 ghost use Rattle.playing.specs.Playing.{kept_of};
 
 // How a script goes on behind a record: with the next one; not at all; once the record, of which not
 // all bytes are there yet, is whole; or once there is room for its line. The last two did nothing.
-#[derive(Drop)]
+#[derive(Clone, Copy)]
 pub enum Then {
     Goes,
     Stops,

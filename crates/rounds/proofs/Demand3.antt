@@ -47,7 +47,7 @@ in_place (c ∷ l) zero d h = Memᴰ.head refl
 in_place (c ∷ l) (suc i) d h = Memᴰ.tail (in_place l i d (omega arith))
 
 pub place_of : (l : List Card) (card d : Card) → Memᴰ card l → (i : ℕ) × ((i < length l) × (get_or l i d ≡ card))
-place_of [] card d m = absurd (Memᴰ.not_nil m)
+place_of [] card d m = absurd (Memᴰ.not-nil m)
 place_of (c ∷ l) card d (Memᴰ.head e) = (0, (omega arith, sym e))
 place_of (c ∷ l) card d (Memᴰ.tail m) = let w = place_of l card d m in (suc w.0, (omega (arith, w.1.0), w.1.1))
 

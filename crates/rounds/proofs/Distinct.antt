@@ -31,7 +31,7 @@ under_trans x y (z ∷ l) h b = (omega (arith, b.0), under_trans x y l h b.1)
 
 pub under_member : (x : ℕ) (l : List ℕ) → Under x l → (z : ℕ) → Memᴰ z l → x < z
 unfolding Under
-under_member x [] b z m = absurd (Memᴰ.not_nil m)
+under_member x [] b z m = absurd (Memᴰ.not-nil m)
 under_member x (y ∷ l) b z (Memᴰ.head e) = omega (arith, b.0)
 under_member x (y ∷ l) b z (Memᴰ.tail m) = under_member x l b.1 z m
 
@@ -151,7 +151,7 @@ get_or_member (x ∷ l) (suc k) h = Memᴰ.tail (get_or_member l k (omega arith)
 -- of an ascending list: the element at the place that counts the smaller ones
 pub rank_get : (l : List ℕ) → Ascending l → (x : ℕ) → Memᴰ x l → get_or l (rank l x) 0 ≡ x
 unfolding Ascending rank
-rank_get [] a x m = absurd (Memᴰ.not_nil m)
+rank_get [] a x m = absurd (Memᴰ.not-nil m)
 rank_get (y ∷ l) a x m =
     ⊎_elim (λ e. rw (e, le-ltb y y (omega arith), rank_under y l a.0))
     (λ k. rw (lt-ltb y x (under_member y l a.0 x k)) (rank_get l a.1 x k)) (Memᴰ.cases_cons m)
@@ -163,7 +163,7 @@ rank_le (y ∷ l) x = cases (ltb y x) (λ p. rw p (omega (arith, rank_le l x))) 
 
 pub rank_lt : (l : List ℕ) (x : ℕ) → Memᴰ x l → rank l x < length l
 unfolding rank
-rank_lt [] x m = absurd (Memᴰ.not_nil m)
+rank_lt [] x m = absurd (Memᴰ.not-nil m)
 rank_lt (y ∷ l) x (Memᴰ.head e) = rw (le-ltb y x (omega arith)) (omega (arith, rank_le l x))
 rank_lt (y ∷ l) x (Memᴰ.tail m) = cases (ltb y x) (λ p. rw p (omega (arith, rank_lt l x m))) (λ p. rw p (omega (arith, rank_lt l x m)))
 
@@ -191,8 +191,8 @@ pub ascending_one : (xs ys : List ℕ) → Ascending xs → Ascending ys → ((z
     → ((z : ℕ) → Memᴰ z ys → Memᴰ z xs) → xs ≡ ys
 unfolding Ascending
 ascending_one [] [] a b f g = refl
-ascending_one [] (y ∷ ys) a b f g = absurd (Memᴰ.not_nil (g y (Memᴰ.head refl)))
-ascending_one (x ∷ xs) [] a b f g = absurd (Memᴰ.not_nil (f x (Memᴰ.head refl)))
+ascending_one [] (y ∷ ys) a b f g = absurd (Memᴰ.not-nil (g y (Memᴰ.head refl)))
+ascending_one (x ∷ xs) [] a b f g = absurd (Memᴰ.not-nil (f x (Memᴰ.head refl)))
 ascending_one (x ∷ xs) (y ∷ ys) a b f g =
     let low : y ≤ x = first_under y ys b x (f x (Memᴰ.head refl)) in
     let high : x ≤ y = first_under x xs a y (g y (Memᴰ.head refl)) in

@@ -45,8 +45,8 @@ changed f (suc n) (c ∷ l) = ap (λ (t : List Card). f c ∷ t) (changed f n l)
 
 -- a card that is set behind the others, or in the place of one of them
 set_behind : (n : ℕ) (l : List Card) (c z : Card) → Memᴰ z (take (suc n) (set l n c)) → (z ≡ c) ⊎ Memᴰ z (take n l)
-set_behind n [] c z m = absurd (Memᴰ.not_nil m)
-set_behind zero (x ∷ l) c z m = ⊎_elim (λ e. inl e) (λ k. absurd (Memᴰ.not_nil k)) (Memᴰ.cases_cons m)
+set_behind n [] c z m = absurd (Memᴰ.not-nil m)
+set_behind zero (x ∷ l) c z m = ⊎_elim (λ e. inl e) (λ k. absurd (Memᴰ.not-nil k)) (Memᴰ.cases_cons m)
 set_behind (suc n) (x ∷ l) c z m =
     ⊎_elim (λ e. inr (Memᴰ.head e)) (λ k. ⊎_elim (λ e. inl e) (λ j. inr (Memᴰ.tail j)) (set_behind n l c z k)) (Memᴰ.cases_cons m)
 
@@ -129,4 +129,4 @@ module _ (bus : Bus) (made : MadeBus bus) where
 
 pub empty_made : MadeBus empty_bus
 unfolding empty_bus
-empty_made card m = absurd (Memᴰ.not_nil m)
+empty_made card m = absurd (Memᴰ.not-nil m)

@@ -141,7 +141,7 @@ round a cards = address_round a (cid_round cards)
 -- ---- whether any card sends
 any_ready_lem : (cards : List Card) (card : Card) → Memᴰ card cards → is_ready card ≡ true → any_ready cards ≡ true
 unfolding any_ready
-any_ready_lem [] card m p = absurd (Memᴰ.not_nil m)
+any_ready_lem [] card m p = absurd (Memᴰ.not-nil m)
 any_ready_lem (x ∷ cards) card (Memᴰ.head e) p = rw (ap is_ready (sym e) ∙ p)
 any_ready_lem (x ∷ cards) card (Memᴰ.tail m) p = cases (is_ready x) (λ q. rw q) (λ q. rw q (any_ready_lem cards card m p))
 
@@ -203,7 +203,7 @@ module _ (cards : List Card) (g : Good cards) where
       ∙ map_on _ (λ (card : Card). card) cards
       (λ card k.
       cases (wins_line cards card)
-      (λ w. absurd (Memᴰ.not_nil (subst (Memᴰ (identifier card)) e (among card k (win card k w).0))))
+      (λ w. absurd (Memᴰ.not-nil (subst (Memᴰ (identifier card)) e (among card k (win card k w).0))))
       (λ w. loser a card k w))
       ∙ map_id cards
   round_at_lem a (m ∷ ms) e =
@@ -241,4 +241,4 @@ module _ (cards : List Card) (g : Good cards) where
   unfolding cid_line
   shows_none e =
       ap (λ (t : Bool). pick t (0x3F ∷ octets 16 (contested cid_bits (map cid_sender cards))) [])
-      (no_ready cards (λ card k p. Memᴰ.not_nil (subst (Memᴰ (identifier card)) e (among card k p))))
+      (no_ready cards (λ card k p. Memᴰ.not-nil (subst (Memᴰ (identifier card)) e (among card k p))))

@@ -95,7 +95,7 @@ ready_round m a (c ∷ l) =
 
 pub ready_member : (l : List Card) (c : Card) → Memᴰ c l → is_ready c ≡ true → Memᴰ (identifier c) (ready_identifiers l)
 unfolding ready_identifiers
-ready_member [] c m p = absurd (mathlib.Core.List.Memᴰ.not_nil m)
+ready_member [] c m p = absurd (mathlib.Core.List.Memᴰ.not-nil m)
 ready_member (x ∷ l) c (mathlib.Core.List.Memᴰ.head e) p = rw (sym (ap is_ready e) ∙ p) (mathlib.Core.List.Memᴰ.head (ap identifier e))
 ready_member (x ∷ l) c (mathlib.Core.List.Memᴰ.tail m) p = cases (is_ready x) (λ q. rw q (mathlib.Core.List.Memᴰ.tail (ready_member l c m p))) (λ q. rw q (ready_member l c m p))
 
@@ -143,11 +143,11 @@ final_one m round ms rounds l e c k =
     miss j = refl
 
 pub none_ready : (l : List Card) → distinct (ready_identifiers l) ≡ [] → (c : Card) → Memᴰ c l → is_ready c ≡ true → ⊥
-none_ready l e c k p = mathlib.Core.List.Memᴰ.not_nil (subst (Memᴰ (identifier c)) e (distinct_has (ready_identifiers l) (identifier c) (ready_member l c k p)))
+none_ready l e c k p = mathlib.Core.List.Memᴰ.not-nil (subst (Memᴰ (identifier c)) e (distinct_has (ready_identifiers l) (identifier c) (ready_member l c k p)))
 
 pub ready_from : (l : List Card) (x : ℕ) → Memᴰ x (ready_identifiers l) → (c : Card) × Memᴰ c l × (is_ready c ≡ true) × (identifier c ≡ x)
 unfolding ready_identifiers
-ready_from [] x m = absurd (mathlib.Core.List.Memᴰ.not_nil m)
+ready_from [] x m = absurd (mathlib.Core.List.Memᴰ.not-nil m)
 ready_from (y ∷ l) x m =
     cases (is_ready y)
     (λ p. ⊎_elim (λ e. (y, mathlib.Core.List.Memᴰ.head refl, p, sym e)) (λ k. let w = ready_from l x k in (w.0, mathlib.Core.List.Memᴰ.tail w.1, w.2, w.3)) (mathlib.Core.List.Memᴰ.cases_cons (rw p at m)))

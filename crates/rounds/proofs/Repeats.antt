@@ -30,7 +30,7 @@ put x (y ∷ l) =
 
 there : (x : ℕ) (l : List ℕ) → Ascending l → Memᴰ x l → length (insert x l) ≡ length l
 unfolding insert Ascending
-there x [] a m = absurd (mathlib.Core.List.Memᴰ.not_nil m)
+there x [] a m = absurd (mathlib.Core.List.Memᴰ.not-nil m)
 there x (y ∷ l) a m =
     ⊎_elim (λ (e : x ≡ y). rw (le-ltb x y (omega arith), eq-eqb x y e))
     (λ (k : Memᴰ x l).
@@ -46,7 +46,7 @@ distinct_at_most [] = omega arith
 distinct_at_most (x ∷ xs) = omega (arith, put_at_most x (distinct xs), distinct_at_most xs)
 
 pub place_in : (l : List ℕ) (x : ℕ) → Memᴰ x l → (i : ℕ) × ((i < length l) × (get_or l i 0 ≡ x))
-place_in [] x m = absurd (mathlib.Core.List.Memᴰ.not_nil m)
+place_in [] x m = absurd (mathlib.Core.List.Memᴰ.not-nil m)
 place_in (y ∷ l) x (mathlib.Core.List.Memᴰ.head e) = (0, (omega arith, sym e))
 place_in (y ∷ l) x (mathlib.Core.List.Memᴰ.tail m) = let w = place_in l x m in (suc w.0, (omega (arith, w.1.0), w.1.1))
 

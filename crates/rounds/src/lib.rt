@@ -3,6 +3,8 @@
 // a bus say, so that demand 3 has no condition that a caller could break.
 //
 // Offers: `well_formed`.
+#![tactic(auto)]
+
 ghost use Rattle.std.specs.Prelude.{true, ◌≡◌};
 ghost use Rattle.rounds.specs.Demand3.{CidBytes, WellFormed};
 

@@ -38,7 +38,7 @@ and_right false b e = absurd (false≢true e)
 -- ---- one bit
 pub line_at_most : (ss : List Sender) (s : Sender) → Memᴰ s ss → s.on ≡ true → line ss ≤ top s.bits
 unfolding line
-line_at_most [] s m on = absurd (Memᴰ.not_nil m)
+line_at_most [] s m on = absurd (Memᴰ.not-nil m)
 line_at_most (x ∷ ss) s (Memᴰ.head e) on = rw (sym e, on) (omega arith)
 line_at_most (x ∷ ss) s (Memᴰ.tail m) on = omega (arith, line_at_most ss s m on)
 

@@ -236,7 +236,7 @@ again voice row (frame ∷ frames) h =
 
 heard_once : (voice row : List ℕ) (frames : List (List ℕ)) → OneVoice voice frames → Memᴰ voice frames
     → mins_all row frames ≡ mins row (bits voice)
-heard_once voice row [] h m = absurd (Memᴰ.not_nil m)
+heard_once voice row [] h m = absurd (Memᴰ.not-nil m)
 heard_once voice row (frame ∷ frames) h (Memᴰ.head e) =
     ap (λ (f : List ℕ). mins_all (mins row (bits f)) frames) (sym e) ∙ again voice row frames (λ f k. h f (Memᴰ.tail k))
 heard_once voice row (frame ∷ frames) h (Memᴰ.tail m) =

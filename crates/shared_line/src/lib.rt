@@ -3,6 +3,8 @@
 // ANDed. No call has a `requires`.
 //
 // Offers: `Low`, `nobody`, `is_lower`, `is_low`; `and`.
+#![tactic(auto)]
+
 ghost use Rattle.std.specs.Prelude.{◌≡◌, eqb};
 ghost use Rattle.shared_line.specs.Bytes.{anded};
 ghost use Rattle.shared_line.specs.Lowest.{cid_number, order_of, no_low, is_lower, is_low};
@@ -10,14 +12,14 @@ ghost use Rattle.shared_line.specs.Lowest.{cid_number, order_of, no_low, is_lowe
 use base::least;
 
 // The smallest CID among those that were sent, if any was.
-#[derive(Drop)]
+#[derive(Clone, Copy)]
 pub struct Low {
     pub any: bool,
     pub cid: [u8; 16],
 }
 
 // How a CID stands to another, as numbers.
-#[derive(Drop)]
+#[derive(Clone, Copy)]
 pub enum Order {
     Smaller,
     Same,

@@ -2,6 +2,8 @@
 // altered there". One thin call, which is the step of crates/card.
 //
 // Offers: `socket`, `step_in_place`.
+#![tactic(auto)]
+
 ghost use Rattle.std.specs.Prelude.{◌≡◌, length};
 ghost use Rattle.card.specs.Step.{step_of, lent_after, output_of};
 ghost use Rattle.store.specs.Lent.{lent_of, seen};

@@ -9,7 +9,6 @@ use Prim.Native.Nat.{ℕ}
 use borrow.Author.Tests.{eqb-true}
 use lib.Dec.{eqb}
 use Rattle.base.specs.Choice.{pick}
-use Rattle.card_record.specs.Record.{with_errors}
 use Rattle.card_record.specs.declared.Link.{Link}
 use Rattle.card_record.specs.declared.Mode.{Mode}
 use Rattle.command.specs.Answers.{response_of as response_in_mmc, answered}
@@ -24,7 +23,6 @@ use Rattle.moves.specs.declared.Move.TheVariants.{Ignored, Silent, Illegal, To}
 use Rattle.moves.specs.declared.Row.{Row}
 use Rattle.spi_moves.specs.Moves.{row_of, move_of}
 use Rattle.states.specs.States.{column_of}
-use Rattle.states.specs.declared.Column.{Column}
 use Rattle.status.specs.ErrorBits.{error_bit}
 use Rattle.status.specs.Status.{with_bit}
 use Rattle.spi.specs.Answering.{in_mmc, in_spi, mode_by, decision_of, replied_by, taken_by, untaken}

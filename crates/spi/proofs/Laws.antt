@@ -21,14 +21,11 @@ use Rattle.card_record.specs.Power.{fresh_link}
 use Rattle.card_record.specs.Record.{with_errors}
 use Rattle.card_record.specs.declared.Link.{Link}
 use Rattle.card_record.specs.declared.Mode.{Mode}
-use Rattle.card_record.specs.declared.Sent.{Sent}
 use Rattle.card_record.specs.declared.Sent.TheVariants.{Nothing, SpiR1}
-use Rattle.command.specs.Answers.{response_of as response_in_mmc, answered}
+use Rattle.command.specs.Answers.{answered}
 use Rattle.command.specs.Command.{received_of, damaged_link, taken_of, moved_by, command_of}
 use Rattle.command.specs.Obey.{acted_of}
-use Rattle.command.specs.declared.Acted.{Acted}
 use Rattle.command.specs.declared.Change.TheVariants.{Nothing as Unchanged}
-use Rattle.command.specs.declared.Commanded.{Commanded}
 use Rattle.command.specs.declared.Met.{Met}
 use Rattle.moves.specs.Moves.{move_of as move_in_mmc}
 use Rattle.moves.specs.Rows.{row_of as row_in_mmc}
@@ -42,7 +39,7 @@ use Rattle.states.specs.declared.Column.{Column}
 use Rattle.states.specs.declared.Column.TheVariants.{Idle, Ready, Ident, Stby, Tran, Data, Rcv, Prg, Dis, Ina}
 use Rattle.status.specs.ErrorBits.{error_bit}
 use Rattle.status.specs.Status.{no_errors}
-use Rattle.spi.specs.Answers.{response_of, answered_in, faulted}
+use Rattle.spi.specs.Answers.{answered_in, faulted}
 use Rattle.spi.specs.Hearing.{unheard, heard_in_mmc, mode_after, taken_in, moved_in, spi_heard, as_spi, heard_of, damaged_of}
 use Rattle.spi.specs.declared.Heard.{Heard}
 

@@ -1,6 +1,6 @@
 -- Document 02, request 1: how a card takes a command, in MMC mode and in SPI.
 -- Assumes nothing.
-use Rattle.std.specs.Prelude.{Bool, true, false, not, ◌&&◌, ◌||◌, [], ◌∷◌, ℕ, ◌%◌, eqb}
+use Rattle.std.specs.Prelude.{Bool, true, false, not, ◌&&◌, ◌||◌, ℕ, ◌%◌, eqb}
 use Rattle.base.specs.Choice.{pick}
 use Rattle.card_record.specs.declared.Link.{Link}
 use Rattle.card_record.specs.declared.Mode.{Mode}

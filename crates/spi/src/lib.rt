@@ -6,6 +6,8 @@
 // apart, and every command then pays for handing its record over. No call has a `requires`.
 //
 // Offers: `Heard`, `hear`; `crc_passes`, `damaged`.
+#![tactic(auto)]
+
 mod replies;
 
 ghost use Rattle.std.specs.Prelude.{◌≡◌};
@@ -20,7 +22,7 @@ use states::Column;
 use status::{ErrorBit, Errors};
 
 // What a command leaves: the mode, the link, what is sent, and what is to change in what is lent.
-#[derive(Drop)]
+#[derive(Clone, Copy)]
 pub struct Heard {
     pub mode: Mode,
     pub link: Link,
@@ -29,7 +31,7 @@ pub struct Heard {
 }
 
 // The answers of SPI.
-#[derive(Drop)]
+#[derive(Clone, Copy)]
 pub enum Response {
     R1,
     R2,
@@ -38,7 +40,7 @@ pub enum Response {
 
 // How a command is answered, in one list for both modes: the answer is chosen with the move, and what
 // the command does stands between the two once, whichever mode it came in.
-#[derive(Drop)]
+#[derive(Clone, Copy)]
 pub enum Answering {
     Nothing,
     R1,
@@ -50,7 +52,7 @@ pub enum Answering {
 }
 
 // How a command is answered if it is taken, and where the table of the card's mode leads it.
-#[derive(Drop)]
+#[derive(Clone, Copy)]
 pub struct Decision {
     pub answering: Answering,
     pub next: Move,

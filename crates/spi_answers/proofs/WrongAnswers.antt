@@ -15,9 +15,8 @@
 --   r2_leaves_24          an R2 that leaves bit 24
 --   r2_leaves_30          an R2 that clears what its second byte shows only
 -- Assumes nothing.
-use mathlib.Core.Path.{◌≡◌, refl, ap}
+use mathlib.Core.Path.{◌≡◌, refl}
 use mathlib.Core.Bool.{true, false}
-use Prim.Native.Nat.{ℕ}
 use native.Mathlib.Omega.{arith}
 use Rattle.status.specs.ErrorBits.{error_bit}
 use Rattle.status.specs.Status.{no_errors, with_bit}

@@ -3,6 +3,8 @@
 // and CMD1 comes "with any argument"; and the table itself. A move is one of the base's.
 //
 // Offers: `Row`, `row_of`; `next`.
+#![tactic(auto)]
+
 mod table;
 
 ghost use Rattle.std.specs.Prelude.{◌≡◌, get_or};
@@ -16,7 +18,7 @@ use states::Column;
 use table::{Entry, MOVES};
 
 // The rows of the table of moves in SPI.
-#[derive(Drop)]
+#[derive(Clone, Copy)]
 pub enum Row {
     // CMD0.
     GoIdleState,

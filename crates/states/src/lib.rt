@@ -2,11 +2,13 @@
 // waits for inside its case.
 //
 // Offers: `Incoming`, `Outgoing`, `State`; `Column`, `column_of`, `number`.
+#![tactic(auto)]
+
 ghost use Rattle.std.specs.Prelude.{◌≡◌};
 ghost use Rattle.states.specs.States.{column_of, column_number};
 
 // What a card in rcv awaits: a block at an address, blocks from an address on, a lock request.
-#[derive(Drop)]
+#[derive(Clone, Copy)]
 pub enum Incoming {
     One(u32),
     Many(u32),
@@ -15,7 +17,7 @@ pub enum Incoming {
 
 // What a card in data is to send: a block from an address, blocks from an address on, the
 // protection bits from a group on; in SPI a register too.
-#[derive(Drop)]
+#[derive(Clone, Copy)]
 pub enum Outgoing {
     One(u32),
     Many(u32),
@@ -24,7 +26,7 @@ pub enum Outgoing {
     Cid,
 }
 
-#[derive(Drop)]
+#[derive(Clone, Copy)]
 pub enum State {
     Idle,
     Ready,
@@ -39,7 +41,7 @@ pub enum State {
 }
 
 // A state without what it waits for: a column of the table of moves, and what a status shows.
-#[derive(Drop)]
+#[derive(Clone, Copy)]
 pub enum Column {
     Idle,
     Ready,

@@ -3,6 +3,8 @@
 // the named error bits are ever shown.
 //
 // Offers: `ErrorBit`, `Fault`; `Errors`, `none`, `set`, `clear_command_bits`, `pending`; `word`.
+#![tactic(auto)]
+
 ghost use Rattle.std.specs.Prelude.{◌≡◌, ◌^◌};
 ghost use Rattle.status.specs.ErrorBits.{place_of};
 ghost use Rattle.status.specs.Status.{no_errors, with_bit, command_bits_cleared, shown, flag, buffer_empty, word_of};
@@ -10,7 +12,7 @@ ghost use Rattle.status.specs.Status.{no_errors, with_bit, command_bits_cleared,
 use states::Column;
 
 // The error bits that document 01 uses, by the names of source document 001, from bit 31 down.
-#[derive(Drop)]
+#[derive(Clone, Copy)]
 pub enum ErrorBit {
     OutOfRange,
     AddressError,
@@ -26,14 +28,14 @@ pub enum ErrorBit {
 }
 
 // What a check of a command finds: nothing wrong, or the error bit to set.
-#[derive(Drop)]
+#[derive(Clone, Copy)]
 pub enum Fault {
     None,
     Bit(ErrorBit),
 }
 
 // The error bits that wait to be reported, each in its place of the status.
-#[derive(Drop)]
+#[derive(Clone, Copy)]
 pub struct Errors {
     pub bits: u32,
 }

@@ -4,6 +4,8 @@
 //
 // Offers: `PROTECTION_GROUP`; `size_allowed`, `map_right`; `Lending`, `lent_check`; `read_part`,
 // `write_sector`, `erase`, `fill_all`; `protected`, `protect`, `protection_bits`, `clear_map`.
+#![tactic(auto)]
+
 ghost use Rattle.std.specs.Prelude.{◌≡◌, ◌||◌, ◌+◌, ◌%◌, ◌<◌, ◌≤◌, length};
 ghost use Rattle.base.specs.Choice.{pick};
 ghost use Rattle.base.specs.Sizes.{sector_size};
@@ -60,7 +62,7 @@ pub fn map_right(map: &[u8], groups: usize) -> bool
 }
 
 // What is lent is the card's, or is not.
-#[derive(Drop)]
+#[derive(Clone, Copy)]
 pub enum Lending {
     Right,
     Refused(Refusal),
@@ -201,7 +203,7 @@ pub fn read_part(memory: &[u8], at: usize, out: &mut [u8]) -> bool
 }
 
 // Sectors from the first on, the end not among them.
-#[derive(Drop)]
+#[derive(Clone, Copy)]
 struct Span {
     first: usize,
     end: usize,

@@ -12,7 +12,6 @@ use mathlib.Core.Logic.{◌⊎◌, inl, inr}
 use Prim.Native.Nat.{ℕ, ◌%◌, ◌≤◌, ◌<◌}
 use native.Mathlib.Omega.{arith}
 use borrow.Author.Tests.{le-leb, lt-leb}
-use lib.ListN.{length}
 use Rattle.base.proofs.Cases.{never}
 use Rattle.base.specs.Choice.{unless}
 use Rattle.base.specs.Refusals.{by}

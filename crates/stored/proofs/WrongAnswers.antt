@@ -27,14 +27,14 @@ use Rattle.card.specs.declared.Call.{Call}
 use Rattle.card.specs.declared.Call.TheVariants.{Frame, BlockIn, BlockOut, WorkDone, PowerOn}
 use Rattle.card_blocks.specs.declared.Outcome.TheVariants.{Refused}
 use Rattle.command.specs.declared.Change.TheVariants.{Protect}
-use Rattle.lock.specs.Passwords.{stored, same}
+use Rattle.lock.specs.Passwords.{stored}
 use Rattle.lock.specs.Requests.{password_in}
 use Rattle.card_record.specs.Record.{csd_protects}
 use Rattle.card_record.specs.declared.Card.{Card}
 use Rattle.spi.specs.Hearing.{crc_passes}
 use Rattle.states.specs.declared.Incoming.TheVariants.{One}
 use Rattle.states.specs.declared.State.TheVariants.{Rcv}
-use Rattle.store.specs.Lent.{Seen, seen}
+use Rattle.store.specs.Lent.{Seen}
 use Rattle.store.specs.Map.{protected_in}
 use Rattle.tags.specs.Tags.{tagged_of}
 use Rattle.wire.specs.Frames.{framing_of}

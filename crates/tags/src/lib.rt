@@ -4,6 +4,8 @@
 //
 // Offers: `Kind`, `Range`, `Tags`, `tagged`; `no_tags`, `any`, `complete`; `Tagging`, `tag_start`,
 // `tag_end`.
+#![tactic(auto)]
+
 ghost use Rattle.std.specs.Prelude.{◌≡◌};
 ghost use Rattle.tags.specs.Tagging.{tags_of, no_tags, any_of, is_complete, place_in, tag_failed, same_kind, has_start, first_of, one_group, start_tagged, end_tagged};
 ghost use Rattle.tags.specs.Tags.{within, tagged_of};
@@ -11,27 +13,27 @@ ghost use Rattle.tags.specs.Tags.{within, tagged_of};
 use base::{ERASE_GROUP, SECTOR};
 use status::{ErrorBit, Fault};
 
-#[derive(Drop)]
+#[derive(Clone, Copy)]
 pub enum Kind {
     Sectors,
     Groups,
 }
 
 // What is tagged: nothing, a start alone, or a start and an end, both within.
-#[derive(Drop)]
+#[derive(Clone, Copy)]
 pub enum Range {
     Nothing,
     Start(Kind, u32),
     Full(Kind, u32, u32),
 }
 
-#[derive(Drop)]
+#[derive(Clone, Copy)]
 pub struct Tags {
     pub range: Range,
 }
 
 // What a tag command leaves: the tags, and the error that it answers.
-#[derive(Drop)]
+#[derive(Clone, Copy)]
 pub struct Tagging {
     pub tags: Tags,
     pub error: Fault,

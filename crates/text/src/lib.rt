@@ -3,6 +3,8 @@
 // together of, in lines.rt, writes as much as there is room for. parts.rt has parts of bytes.
 //
 // Offers: `hex`, `decimal`; `lines`, `parts`.
+#![tactic(auto)]
+
 pub mod lines;
 pub mod parts;
 
@@ -36,7 +38,7 @@ pub fn hex(bytes: &[u8], out: &mut [u8]) -> Written
 }
 
 // Decimal digits at the end of a text that has room for those of any number, from a place on.
-#[derive(Drop)]
+#[derive(Clone, Copy)]
 struct Spelt {
     from: usize,
     text: [u8; 20],

@@ -4,6 +4,8 @@
 //
 // Offers: `unframe`, `read_frame`, `write_command`; `R1`, `R2`, `R3`, `write_r1`, `write_r2`,
 // `write_r3`; `last_byte`, `register_right`; `LONGEST_BLOCK`, `write_block`, `check_block`.
+#![tactic(auto)]
+
 ghost use Rattle.std.specs.Prelude.{◌≡◌, ◌++◌, ◌+◌, ◌*◌, ◌≤◌, length, drop};
 ghost use Rattle.base.specs.Output.{fits, laid};
 ghost use Rattle.crc.specs.Bits.{bits_of, octets};
@@ -14,7 +16,7 @@ ghost use Rattle.wire.specs.Responses.{r1_frame, r2_frame, r3_frame, last_byte, 
 use base::{Refusal, Written, copy};
 
 // A frame whose length and framing bits are right, with the outcome of its CRC7; or the refusal.
-#[derive(Drop)]
+#[derive(Clone, Copy)]
 pub enum Framing {
     Framed {
         index: u8,
@@ -25,25 +27,25 @@ pub enum Framing {
 }
 
 // A command, or the refusal.
-#[derive(Drop)]
+#[derive(Clone, Copy)]
 pub enum Frame {
     Command { index: u8, argument: u32 },
     Refused(Refusal),
 }
 
 // What each response means.
-#[derive(Drop)]
+#[derive(Clone, Copy)]
 pub struct R1 {
     pub index: u8,
     pub status: u32,
 }
 
-#[derive(Drop)]
+#[derive(Clone, Copy)]
 pub struct R2 {
     pub register: [u8; 16],
 }
 
-#[derive(Drop)]
+#[derive(Clone, Copy)]
 pub struct R3 {
     pub ocr: u32,
 }
@@ -55,7 +57,7 @@ pub const LONGEST_BLOCK: usize = 2048;
 const LONGEST_CHECKED: usize = LONGEST_BLOCK + 2;
 
 // How many bytes of payload a checked block carries, or the refusal.
-#[derive(Drop)]
+#[derive(Clone, Copy)]
 pub enum Checked {
     Payload(usize),
     Refused(Refusal),

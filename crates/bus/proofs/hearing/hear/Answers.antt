@@ -1,0 +1,60 @@
+-- `bus::hearing::hear` meets its contract: what is sent is always written, in at most 17 bytes.
+-- Assumes nothing.
+use mathlib.Core.List.{List}
+use mathlib.Core.Path.{◌≡◌, sym, ap, ap₂, ◌∙◌}
+use Prim.Native.Nat.{ℕ, ◌-◌, max}
+use native.Mathlib.Omega.{arith}
+use borrow.Author.Rules.{rules}
+use lib.ListN.{length, take, drop}
+use lib.Seq.{take_at}
+use Rattle.base.specs.Output.{laid}
+use Rattle.base.specs.declared.Written.{Written}
+use Rattle.card_record.specs.Sending.{sent_bytes}
+use Rattle.shared_line.specs.Bytes.{anded}
+use Rattle.card_record.proofs.Writes.{written_bytes, never_refused}
+use Rattle.bus.proofs.Telling.{zeros}
+use Rattle.bus.specs.Hearing.{heard_of}
+use Rattle.bus.specs.declared.Heard.{Heard}
+use Rattle.bus.proofs.hearing.hear.Goals as goal
+
+abbrev held : List ℕ → ℕ → Heard
+held line length = record { line = line; length = length }
+
+pub slice_bounds-and-end : goal.slice_bounds-and-end
+slice_bounds-and-end c =
+    let w = c.write_sent-written.ensures in
+    let a = c.args.registers in
+    let cid : length a.cid ≡ 16 = search rules in
+    let csd : length a.csd ≡ 16 = search rules in
+    let long : length c.write_sent-written.new.out ≡ 17 = search rules in
+    let right = written_bytes a c.args.sent zeros c.requires.1 cid csd (omega arith) _ w.answer c.in-Bytes.n c.in-Bytes.is in
+    omega (arith, right.1)
+
+pub returns-in-Bytes : goal.returns-in-Bytes
+unfolding heard_of
+returns-in-Bytes c =
+    let w = c.write_sent-written.ensures in
+    let n = c.in-Bytes.n in
+    let a = c.args.registers in
+    let line = c.args.heard.line in
+    let bytes = sent_bytes a c.args.sent in
+    let cid : length a.cid ≡ 16 = search rules in
+    let csd : length a.csd ≡ 16 = search rules in
+    let right = written_bytes a c.args.sent zeros c.requires.1 cid csd (omega arith) _ w.answer n c.in-Bytes.is in
+    let sends = w.output ∙ ap (λ (r : Written). laid r bytes zeros) c.in-Bytes.is in
+    let whole : n - 0 ≡ n = omega arith in
+    let ands : c.and.result ≡ anded line (take (n - 0) c.write_sent-written.new.out) = c.and.ensures.answer in
+    record {
+      answer = ap₂ held
+          (ands ∙ ap₂ (λ (k : ℕ) (l : List ℕ). anded line (take k l)) whole sends
+          ∙ ap (anded line) (take_at bytes (drop (length bytes) zeros) n (sym right.0)))
+          (c.longer.ensures ∙ ap (λ (k : ℕ). max c.args.heard.length k) right.0);
+      short = omega (arith, c.longer.ensures, right.1, c.requires.0);
+    }
+
+pub returns-in-Refused : goal.returns-in-Refused
+returns-in-Refused c =
+    let a = c.args.registers in
+    let cid : length a.cid ≡ 16 = search rules in
+    let csd : length a.csd ≡ 16 = search rules in
+    absurd (never_refused a c.args.sent zeros c.requires.1 cid csd (omega arith) _ c.write_sent-written.ensures.answer c.in-Refused.field-0 c.in-Refused.is)

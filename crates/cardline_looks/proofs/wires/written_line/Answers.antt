@@ -1,0 +1,11 @@
+-- `cardline_looks::wires::written_line` meets its contract: each return is told the answer.
+-- Assumes nothing.
+use native.Mathlib.Omega.{arith}
+use Rattle.text.proofs.Lengths.{word_short}
+use Rattle.cardline_looks.proofs.wires.written_line.Goals as goal
+
+pub returns-in-Bytes : goal.returns-in-Bytes
+returns-in-Bytes c =
+    let a = c.args in
+    rw c.in-Bytes.is
+    (record { put = c.say.ensures; short = omega (arith, word_short a.count a.word.now a.output.now) })

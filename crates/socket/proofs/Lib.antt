@@ -1,2 +1,0 @@
-pub mod InPlace
-pub mod Walk

@@ -1,0 +1,21 @@
+-- `wire::write_r1` meets its contract: the tests lead to its refusals, and the six bytes stored are the frame.
+-- Assumes nothing.
+use native.Mathlib.Omega.{arith}
+use borrow.Author.Rules.{rules}
+use Rattle.wire.specs.Responses.{r1_frame}
+use Rattle.wire.proofs.Writing.{framed}
+use Rattle.wire.proofs.write_r1.Goals as goal
+
+pub returns-then-out-lt6-clause-answer : goal.returns-then-out-lt6-clause-answer
+unfolding r1_frame
+returns-then-out-lt6-clause-answer c = search rules
+
+pub returns-clause-answer : goal.returns-clause-answer
+unfolding r1_frame
+returns-clause-answer c = search rules
+
+pub returns-clause-output : goal.returns-clause-output
+unfolding r1_frame
+returns-clause-output c =
+    let a = c.args in
+    (framed 0 a.r1.index a.r1.status _ a.out.now _ (omega arith) c.if-r1-gt63.false c.if-out-lt6.false (omega arith) c.put48.ensures).1
