@@ -1,25 +1,41 @@
 // Cardline: drives one card through every call of its own, by a script of records on standard input.
 // It is played as it is read, so a script may have any length. `cardline_records` says what a record
 // does and what is printed of it, `cardline_player` what is handed to the write call in a turn.
+#![tactic(auto)]
+
 use cardline_player::{Turned, advance};
-use libc::STDIN_FILENO;
 use playing::Then;
 use program_io::{Got, more, show};
+use std::io::Read;
 
 // From buffers of zeros: more than the longest record, the largest memory and map that a record lends,
 // and the longest line.
-fn main() {
+fn main(rt: HostRuntime) {
     let mut buffer = [0u8; 8192];
     let mut memory = [0u8; 528384];
     let mut map = [0u8; 256];
     let mut out = [0u8; 131136];
-    run(&mut buffer, &mut memory, &mut map, &mut out);
+    run(
+        &rt,
+        &mut rt.stdin(),
+        &mut buffer,
+        &mut memory,
+        &mut map,
+        &mut out,
+    );
 }
 
 // Turn by turn: a read, where a record waits for bytes, the record at the front played, and a write. A
 // loop has to end, and nothing says that an input does: the turns are counted down from a number that
 // no run uses up.
-fn run(buffer: &mut [u8], memory: &mut [u8], map: &mut [u8], out: &mut [u8]) {
+fn run(
+    rt: &(impl Print + Eprint),
+    input: &mut impl Read,
+    buffer: &mut [u8],
+    memory: &mut [u8],
+    map: &mut [u8],
+    out: &mut [u8],
+) {
     let mut before = Turned {
         progress: cardline_records::fresh(),
         from: 0,
@@ -29,7 +45,7 @@ fn run(buffer: &mut [u8], memory: &mut [u8], map: &mut [u8], out: &mut [u8]) {
     };
     let mut turns = u64::MAX;
     while turns > 0 {
-        before = turn(before, buffer, memory, map, out);
+        before = turn(rt, input, before, buffer, memory, map, out);
         let then = before.then;
         if is_over(then) {
             return;
@@ -55,6 +71,8 @@ fn stopped(before: Turned) -> Turned {
 }
 
 fn turn(
+    rt: &(impl Print + Eprint),
+    input: &mut impl Read,
     before: Turned,
     buffer: &mut [u8],
     memory: &mut [u8],
@@ -62,14 +80,15 @@ fn turn(
     out: &mut [u8],
 ) -> Turned {
     let then = before.then;
-    let Got::Bytes(to) = at_hand(then, before.to, buffer, out) else {
+    let Got::Bytes(to) = at_hand(rt, input, then, before.to, buffer, out) else {
         return stopped(before);
     };
-    hand_over(before, to, buffer, memory, map, out)
+    hand_over(rt, before, to, buffer, memory, map, out)
 }
 
 // The record at the front of what is at hand, played, and its line handed to the write call.
 fn hand_over(
+    rt: &(impl Print + Eprint),
     before: Turned,
     to: usize,
     buffer: &mut [u8],
@@ -79,7 +98,7 @@ fn hand_over(
 ) -> Turned {
     let progress = before.progress;
     let after = advance(progress, before.from, to, buffer, memory, map, out);
-    if !written(out, after.wrote) {
+    if !written(rt, out, after.wrote) {
         return stopped(after);
     }
     after
@@ -87,15 +106,22 @@ fn hand_over(
 
 // How many bytes are to be played: none more where the script has stopped or the input has ended, of
 // which what is left over is said.
-fn at_hand(then: Then, to: usize, buffer: &mut [u8], out: &mut [u8]) -> Got {
+fn at_hand(
+    rt: &(impl Print + Eprint),
+    input: &mut impl Read,
+    then: Then,
+    to: usize,
+    buffer: &mut [u8],
+    out: &mut [u8],
+) -> Got {
     match then {
         Then::Goes => Got::Bytes(to),
         Then::Stops => Got::End,
         Then::Waits => {
-            let got = more(STDIN_FILENO, b"standard input", buffer, to);
+            let got = more(rt, input, b"standard input", buffer, to);
             if let Got::End = got {
                 let n = cardline_records::cut(to, out);
-                show(out, n);
+                show(rt, out, n);
             }
             got
         }
@@ -104,7 +130,7 @@ fn at_hand(then: Then, to: usize, buffer: &mut [u8], out: &mut [u8]) -> Got {
 }
 
 // The text at the front of the output, handed over: whether it was written.
-fn written(out: &[u8], n: usize) -> bool {
-    let handed = show(out, n);
+fn written(rt: &(impl Print + Eprint), out: &[u8], n: usize) -> bool {
+    let handed = show(rt, out, n);
     handed.written
 }

@@ -2,15 +2,17 @@
 // first. A round of CMD2 and CMD3 finds a unit and gives it an address; then it is selected on the
 // bus, taken out of its place, written and read by its own calls, and put back. Three units are
 // docked and two rounds are answered: so the copy shows.
+#![tactic(auto)]
+
 mod own;
 mod say;
 
 use bus::{Bus, Framed};
 
-fn main() {
+fn main(rt: HostRuntime) {
     let bus = dock();
     let units = bus.count;
-    say::counted(units, rounds(bus));
+    say::counted(&rt, units, rounds(&rt, bus));
 }
 
 // Two units by their identifiers, and a copy of the first.
@@ -40,18 +42,18 @@ fn tell(bus: Bus, index: u8, argument: u32) -> Bus {
 
 // CMD1 makes all ready. Then CMD2 asks who is there, until nobody answers: how many rounds were
 // answered. 30 units can answer no more than 30.
-fn rounds(docked: Bus) -> u16 {
+fn rounds(rt: &impl Print, docked: Bus) -> u16 {
     let mut bus = tell(docked, 1, 0x00FF_8000);
     let mut answered: u16 = 0;
     while answered < 30 {
         let asked = send(bus, 2, 0);
         let shown = asked.shown;
         let line = asked.line;
-        if !say::heard(shown, line) {
+        if !say::heard(rt, shown, line) {
             return answered;
         }
         answered += 1;
-        bus = reached(asked.bus, answered as u32 * 65536, place_of(line));
+        bus = reached(rt, asked.bus, answered as u32 * 65536, place_of(line));
     }
     answered
 }
@@ -66,16 +68,16 @@ fn place_of(line: [u8; 17]) -> usize {
 
 // CMD3 gives the unit that was heard an address, in bits 31..16, CMD7 selects it, and CMD7 to address
 // 0 deselects it.
-fn reached(heard: Bus, address: u32, place: usize) -> Bus {
+fn reached(rt: &impl Print, heard: Bus, address: u32, place: usize) -> Bus {
     let standby = tell(heard, 3, address);
     let selected = tell(standby, 7, address);
-    let back = collected(selected, place);
+    let back = collected(rt, selected, place);
     tell(back, 7, 0)
 }
 
 // The unit in a place is taken out, writes and reads by its own calls, and is put back.
-fn collected(bus: Bus, place: usize) -> Bus {
+fn collected(rt: &impl Print, bus: Bus, place: usize) -> Bus {
     let taken = bus::take(bus, place);
-    let card = own::exchanged(taken.card);
+    let card = own::exchanged(rt, taken.card);
     bus::put(bus, place, card)
 }

@@ -17,18 +17,18 @@ pub fn made(cid: [u8; 16]) -> Card {
 }
 
 // A block is written and read again, in six calls.
-pub fn exchanged(before: Card) -> Card {
+pub fn exchanged(rt: &impl Print, before: Card) -> Card {
     let mut memory = [0xFFu8; 8192];
     let mut card = before;
     let mut turn: u8 = 0;
     while turn < 6 {
-        card = called(card, turn, &mut memory);
+        card = called(rt, card, turn, &mut memory);
         turn += 1;
     }
     card
 }
 
-fn called(card: Card, turn: u8, memory: &mut [u8]) -> Card {
+fn called(rt: &impl Print, card: Card, turn: u8, memory: &mut [u8]) -> Card {
     let mut input = [0u8; 514];
     let n = input_of(turn, &mut input);
     let mut map = [0u8; 1];
@@ -41,7 +41,7 @@ fn called(card: Card, turn: u8, memory: &mut [u8]) -> Card {
         &mut map,
         &mut out,
     );
-    say::read(turn, &out);
+    say::read(rt, turn, &out);
     stepped.card
 }
 

@@ -5,7 +5,7 @@
 ghost use Rattle.std.specs.Prelude.{◌≤◌, length};
 
 // What is wrong with a text.
-#[derive(Drop)]
+#[derive(Clone, Copy)]
 pub enum Wrong {
     Nothing,
     OddDigits,
@@ -15,7 +15,7 @@ pub enum Wrong {
 
 // How far a text is read: the bytes that it gave, the digit that waits for its second, or 16, whether
 // a comment goes on, the line, and what is wrong with it.
-#[derive(Drop)]
+#[derive(Clone, Copy)]
 pub struct Place {
     pub count: usize,
     high: u8,

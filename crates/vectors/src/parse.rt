@@ -76,7 +76,7 @@ fn digit(b: u8) -> u8
     }
 }
 
-#[derive(Drop)]
+#[derive(Clone, Copy)]
 pub enum Number {
     Is(usize),
     None,
@@ -103,7 +103,7 @@ pub fn number_of(word: &[u8]) -> Number {
     Number::Is(n)
 }
 
-#[derive(Drop)]
+#[derive(Clone, Copy)]
 enum Byte {
     Is(u8),
     None,
@@ -211,7 +211,7 @@ pub fn bytes_of(word: &[u8], out: &mut [u8]) -> Number
     }
 }
 
-#[derive(Drop)]
+#[derive(Clone, Copy)]
 pub enum Number32 {
     Is(u32),
     None,

@@ -17,71 +17,71 @@ use wire::{R1, R2, R3};
 
 // What came of a request. Each function below answers whether the request follows the rules, and
 // prints nothing of one that does not.
-pub fn answer(line: &[u8]) {
-    if !asked(line) {
-        say(b"bad request");
+pub fn answer(rt: &impl Print, line: &[u8]) {
+    if !asked(rt, line) {
+        say(rt, b"bad request");
     }
 }
 
-fn asked(line: &[u8]) -> bool {
+fn asked(rt: &impl Print, line: &[u8]) -> bool {
     if spaces(line) == 1 {
-        return asked_of(word(line, 0), word(line, 1));
+        return asked_of(rt, word(line, 0), word(line, 1));
     }
-    asked_into(line)
+    asked_into(rt, line)
 }
 
 // VERB HEX.
-fn asked_of(verb: &[u8], hex: &[u8]) -> bool {
+fn asked_of(rt: &impl Print, verb: &[u8], hex: &[u8]) -> bool {
     let mut space = [0u8; 4096];
     let Number::Is(n) = bytes_of(hex, &mut space) else {
         return false;
     };
-    of_bytes(verb, &space[0..n])
+    of_bytes(rt, verb, &space[0..n])
 }
 
-fn of_bytes(verb: &[u8], bytes: &[u8]) -> bool {
+fn of_bytes(rt: &impl Print, verb: &[u8], bytes: &[u8]) -> bool {
     if same(verb, b"read") {
-        say_frame(wire::read_frame(bytes));
+        say_frame(rt, wire::read_frame(bytes));
         return true;
     }
     if same(verb, b"unframe") {
-        say_framing(wire::unframe(bytes));
+        say_framing(rt, wire::unframe(bytes));
         return true;
     }
     if same(verb, b"check") {
-        say_checked(wire::check_block(bytes));
+        say_checked(rt, wire::check_block(bytes));
         return true;
     }
     if same(verb, b"register") {
-        return of_register(bytes);
+        return of_register(rt, bytes);
     }
-    of_sum(verb, bytes)
+    of_sum(rt, verb, bytes)
 }
 
-fn of_sum(verb: &[u8], bytes: &[u8]) -> bool {
+fn of_sum(rt: &impl Print, verb: &[u8], bytes: &[u8]) -> bool {
     if same(verb, b"last") {
-        say_hex(&[wire::last_byte(bytes)]);
+        say_hex(rt, &[wire::last_byte(bytes)]);
         return true;
     }
     if same(verb, b"crc7") {
-        say_hex(&[crc::crc7(bytes)]);
+        say_hex(rt, &[crc::crc7(bytes)]);
         return true;
     }
     if same(verb, b"crc16") {
-        say_half(crc::crc16(bytes));
+        say_half(rt, crc::crc16(bytes));
         return true;
     }
     false
 }
 
-fn of_register(bytes: &[u8]) -> bool {
+fn of_register(rt: &impl Print, bytes: &[u8]) -> bool {
     if bytes.len() != 16 {
         return false;
     }
     if wire::register_right(sixteen(bytes)) {
-        say(b"right");
+        say(rt, b"right");
     } else {
-        say(b"wrong");
+        say(rt, b"wrong");
     }
     true
 }
@@ -99,7 +99,7 @@ fn sixteen(bytes: &[u8]) -> [u8; 16]
 }
 
 // VERB, one word or two, `into N`.
-fn asked_into(line: &[u8]) -> bool {
+fn asked_into(rt: &impl Print, line: &[u8]) -> bool {
     let k = spaces(line);
     if k < 3 {
         return false;
@@ -115,10 +115,11 @@ fn asked_into(line: &[u8]) -> bool {
     }
     let mut space = [0xA5u8; 4096];
     if k == 3 {
-        return into(word(line, 0), word(line, 1), &mut space[0..n]);
+        return into(rt, word(line, 0), word(line, 1), &mut space[0..n]);
     }
     if k == 4 {
         return index_into(
+            rt,
             word(line, 0),
             word(line, 1),
             word(line, 2),
@@ -128,26 +129,26 @@ fn asked_into(line: &[u8]) -> bool {
     false
 }
 
-fn into(verb: &[u8], operand: &[u8], out: &mut [u8]) -> bool {
+fn into(rt: &impl Print, verb: &[u8], operand: &[u8], out: &mut [u8]) -> bool {
     if same(verb, b"r3") {
         let Number32::Is(ocr) = word_of(operand) else {
             return false;
         };
         let answer = wire::write_r3(R3 { ocr }, out);
-        say_written(answer, out);
+        say_written(rt, answer, out);
         return true;
     }
     let mut space = [0u8; 4096];
     let Number::Is(n) = bytes_of(operand, &mut space) else {
         return false;
     };
-    bytes_into(verb, &space[0..n], out)
+    bytes_into(rt, verb, &space[0..n], out)
 }
 
-fn bytes_into(verb: &[u8], bytes: &[u8], out: &mut [u8]) -> bool {
+fn bytes_into(rt: &impl Print, verb: &[u8], bytes: &[u8], out: &mut [u8]) -> bool {
     if same(verb, b"block") {
         let answer = wire::write_block(bytes, out);
-        say_written(answer, out);
+        say_written(rt, answer, out);
         return true;
     }
     if !same(verb, b"r2") {
@@ -158,11 +159,11 @@ fn bytes_into(verb: &[u8], bytes: &[u8], out: &mut [u8]) -> bool {
     }
     let register = sixteen(bytes);
     let answer = wire::write_r2(R2 { register }, out);
-    say_written(answer, out);
+    say_written(rt, answer, out);
     true
 }
 
-fn index_into(verb: &[u8], index: &[u8], number: &[u8], out: &mut [u8]) -> bool {
+fn index_into(rt: &impl Print, verb: &[u8], index: &[u8], number: &[u8], out: &mut [u8]) -> bool {
     let Number::Is(i) = number_of(index) else {
         return false;
     };
@@ -175,12 +176,12 @@ fn index_into(verb: &[u8], index: &[u8], number: &[u8], out: &mut [u8]) -> bool 
     let index = i as u8;
     if same(verb, b"command") {
         let answer = wire::write_command(index, w, out);
-        say_written(answer, out);
+        say_written(rt, answer, out);
         return true;
     }
     if same(verb, b"r1") {
         let answer = wire::write_r1(R1 { index, status: w }, out);
-        say_written(answer, out);
+        say_written(rt, answer, out);
         return true;
     }
     false

@@ -1,0 +1,9 @@
+-- `cardline::main` meets its contract. How long the memory is stands in a law: to compute it is to walk the memory.
+-- Assumes nothing.
+use mathlib.Core.Path.{sym}
+use Prim.Native.Nat.{ℕ}
+use Rattle.std.proofs.lemmas.List.{length-replicate}
+use Rattle.cardline.proofs.main.Goals as goal
+
+pub slice_bounds-run-end-2 : goal.slice_bounds-run-end-2
+slice_bounds-run-end-2 c = sym (length-replicate {A = ℕ} 528384 0)
