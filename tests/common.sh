@@ -16,10 +16,12 @@ rustc -O --edition 2021 -o "$work/model" tests/model/main.rs
 # are those given, and then those that start a program.
 compare() {
     command -v rt >/dev/null || die 'rt is not on the PATH'
-    said=$(rt check cardline busline vectors corpus 2>&1) || {
-        printf '%s\n' "$said" >&2
-        die 'a program is not proved, or does not write what its stdout has'
-    }
     . tests/kit.sh
-    "$work/model" "$@" -- ${emulator:+"$emulator"} "$lib/ld-linux-x86-64.so.2" --library-path "$lib"
+    for program in cardline busline vectors corpus; do
+        said=$(build_program "$program" 2>&1) || {
+            printf '%s\n' "$said" >&2
+            die "$program is not proved"
+        }
+    done
+    "$work/model" "$@" -- "$lib/ld-linux-x86-64.so.2" --library-path "$lib"
 }

@@ -20,6 +20,10 @@ RULESET = re.compile(r"^\s*(?:pub\s+)?ruleset\s+(\S+)\s*=")
 USE = re.compile(r"(?:ghost )?use\s+([^\s{;]+?)(?:\.\{([^}]*)\})?(?:\s+as\s+(\S+?))?;?\s*$")
 # Words of the library that lemmas of ours would have.
 LIBRARY = {"bits_of", "by_order", "bit_and", "bit_or"}
+# Names of the library that stand behind a dot, with no import of their own.
+KEPT = {"not-nil"}
+# Fields of records that have the name of a definition elsewhere: a field is no lemma.
+FIELDS = {"password-length", "lent-right"}
 
 
 def snake(name):
@@ -31,7 +35,7 @@ def snake(name):
 
 def wants(name):
     """Whether a name is a word of the older spelling: camel case from a small letter on, or with a dash."""
-    if not re.fullmatch(r"[a-z][\w₀-₉'-]*", name):
+    if name in KEPT or not re.fullmatch(r"[a-z][\w₀-₉'-]*", name):
         return False
     return "-" in name.strip("-") or bool(re.search(r"[A-Z]", name))
 
@@ -104,7 +108,7 @@ class Names:
         """The new name; a lemma's, where a definition has it already, with `_lem`."""
         word = snake(name)
         call = in_function(path) and word in self.functions
-        return word + "_lem" if "-" in name and word in self.words and not call else word
+        return word + "_lem" if "-" in name and name not in FIELDS and word in self.words and not call else word
 
     def of_file(self, path):
         """What is renamed in an .antt file: old names to new ones."""

@@ -114,7 +114,7 @@ impl<'a> Comparison<'a> {
     fn ours(&self, script: &[u8]) -> Result<String, String> {
         let told = |error: std::io::Error| error.to_string();
         fs::write(SCRIPT, script).map_err(told)?;
-        let program = Path::new("target/bin").join(self.program.name());
+        let program = Path::new("crates").join(self.program.name()).join("out").join(self.program.name());
         let (first, rest) = self.launcher.split_first().ok_or("no launcher is named")?;
         let mut child = Command::new(first)
             .args(rest)

@@ -57,7 +57,7 @@ const USAGE: &str = "use, with PROGRAM either cardline or busline:
     model corpus CRATE FOLDER                       makes args, data/ and stdout of crates/corpus anew in a folder, and counts what they reach
     model run COUNT RECORDS FIRST -- LAUNCHER..     compares our programs with the model
     model fuzz COUNT SEED -- LAUNCHER..             the same on damaged scripts and on random bytes
-LAUNCHER is what starts a program of target/bin.";
+LAUNCHER is what starts a program of crates/PROGRAM/out.";
 
 /// What is not as it should be is told in words.
 type Outcome = Result<(), String>;
