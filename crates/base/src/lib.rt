@@ -1,8 +1,8 @@
-// What every other crate shares: the refusals of document 01, the answer of a call that writes into
-// a lent output, and three small tools. The vocabulary of the contracts is in specs/, the laws that
+// What every other crate shares: the refusals of document 01, the error of every call that may be
+// refused, and three small tools. The vocabulary of the contracts is in specs/, the laws that
 // proofs share in proofs/.
 //
-// Offers: `Refusal`, `number`, `Written`; `SECTOR`, `ERASE_GROUP`, `PROTECTION_GROUP`, `READ_BLOCK`;
+// Offers: `Refusal`, `number`; `SECTOR`, `ERASE_GROUP`, `PROTECTION_GROUP`, `READ_BLOCK`;
 // `least`, `fill`, `copy`.
 #![tactic(auto)]
 
@@ -44,14 +44,6 @@ pub enum Refusal {
     Protected,
     LockFailed,
     BlockCrosses,
-}
-
-// What a call that writes into a lent output answers: how many bytes at its front are the answer,
-// or the refusal.
-#[derive(Clone, Copy)]
-pub enum Written {
-    Bytes(usize),
-    Refused(Refusal),
 }
 
 // The number that document 01 gives a refusal: the only place where the code turns one into it.

@@ -8,12 +8,12 @@ ghost use Rattle.card_record.specs.Sending.{sent_bytes, Sendable};
 ghost use Rattle.crc.specs.Bits.{Below};
 ghost use Rattle.moves.specs.Indices.{among};
 
-use crate::{Asked, Heard, Shown, Turned};
-use base::{Refusal, Written, copy};
+use crate::{Asked, Heard, Turned};
+use base::{Refusal, copy};
 use card_record::{Card, Registers, Sent};
 use command::{Decided, Met};
 use moves::{Move, Row};
-use wire::Framing;
+use wire::Fields;
 
 // Whether a command is one for the bus.
 fn on_bus(index: u8) -> bool
@@ -34,11 +34,13 @@ pub fn asked_of(count: usize, frame: &[u8]) -> Asked
     }
     let framing = wire::unframe(frame);
     match framing {
-        Framing::Framed {
-            index,
-            argument,
-            crc_right,
-        } => {
+        Ok(
+            Fields {
+                index,
+                argument,
+                crc_right,
+            },
+        ) => {
             if !crc_right {
                 return Asked::Damaged;
             }
@@ -47,7 +49,7 @@ pub fn asked_of(count: usize, frame: &[u8]) -> Asked
             }
             Asked::Command { index, argument }
         }
-        Framing::Unframed(refusal) => Asked::Refused(refusal),
+        Err(refusal) => Asked::Refused(refusal),
     }
 }
 
@@ -80,11 +82,11 @@ fn hear(heard: Heard, registers: Registers, sent: Sent) -> Heard
     let written = card_record::write_sent(registers, sent, &mut sends);
     let line = heard.line;
     match written {
-        Written::Bytes(n) => Heard {
+        Ok(n) => Heard {
             line: shared_line::and(line, &sends[0..n]),
             length: longer(heard.length, n),
         },
-        Written::Refused(_) => heard,
+        Err(_) => heard,
     }
 }
 
@@ -140,15 +142,15 @@ pub fn turn(
 }
 
 // What the line shows.
-pub fn shown_by(heard: Heard) -> Shown
+pub fn shown_by(heard: Heard) -> Result<Option<usize>, Refusal>
     requires { heard.length ≤ 17 }
     ensures { result ≡ shown_of (sent_on heard) }
 {
     let length = heard.length;
     if length < 1 {
-        return Shown::Silent;
+        return Ok(None);
     }
-    Shown::Line(length)
+    Ok(Some(length))
 }
 
 // Its bytes, and zeros behind them.

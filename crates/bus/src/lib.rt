@@ -2,7 +2,7 @@
 // and a card taken out of its place for its own calls and put back. The bus is lent no memory. Any
 // records and any count may come in, so no call has a `requires`.
 //
-// Offers: `Bus`, `empty`, `Added`, `add`; `Shown`, `Framed`, `frame`; `Taken`, `take`, `put`.
+// Offers: `Bus`, `empty`, `Added`, `add`; `Framed`, `frame`; `take`, `put`.
 #![tactic(auto)]
 
 mod contest;
@@ -23,32 +23,19 @@ pub struct Bus {
     pub count: usize,
 }
 
-// The place of an added card, or the refusal.
-#[derive(Clone, Copy)]
-pub enum Adding {
-    Place(usize),
-    Refused(Refusal),
-}
-
+// The bus after a card was to be added, and the card's place, or the refusal.
 #[derive(Clone, Copy)]
 pub struct Added {
     pub bus: Bus,
-    pub adding: Adding,
+    pub adding: Result<usize, Refusal>,
 }
 
-// What the line shows: so many bytes; nothing; or the refusal.
-#[derive(Clone, Copy)]
-pub enum Shown {
-    Line(usize),
-    Silent,
-    Refused(Refusal),
-}
-
-// What a frame leaves: the bus, what the line shows, and its bytes, zeros behind them.
+// What a frame leaves: the bus; how many bytes the line shows, if any, or the refusal; and its bytes,
+// zeros behind them.
 #[derive(Clone, Copy)]
 pub struct Framed {
     pub bus: Bus,
-    pub shown: Shown,
+    pub shown: Result<Option<usize>, Refusal>,
     pub line: [u8; 17],
 }
 
@@ -59,13 +46,6 @@ pub enum Asked {
     Command { index: u8, argument: u32 },
     Damaged,
     Refused(Refusal),
-}
-
-// A card, and whether the place was taken.
-#[derive(Clone, Copy)]
-pub struct Taken {
-    pub card: Card,
-    pub found: bool,
 }
 
 // What the line holds of the frames so far: their AND, and the length of the longest.
@@ -109,7 +89,7 @@ pub fn add(bus: Bus, card: Card) -> Added
     if 30 <= place {
         return Added {
             bus,
-            adding: Adding::Refused(Refusal::BusCards),
+            adding: Err(Refusal::BusCards),
         };
     }
     let mut next = bus;
@@ -117,23 +97,19 @@ pub fn add(bus: Bus, card: Card) -> Added
     next.count = place + 1;
     Added {
         bus: next,
-        adding: Adding::Place(place),
+        adding: Ok(place),
     }
 }
 
-// The card in a place, for its own calls.
-pub fn take(bus: Bus, place: usize) -> Taken
+// The card in a place, for its own calls, if the place is taken.
+pub fn take(bus: Bus, place: usize) -> Option<Card>
     ensures answer { result ≡ taken_from bus place }
 {
     let end = places(bus.count);
     if end <= place {
-        return Taken {
-            card: card_record::refused_make(),
-            found: false,
-        };
+        return None;
     }
-    let card = bus.cards[place];
-    Taken { card, found: true }
+    Some(bus.cards[place])
 }
 
 // A card back into a place that is taken.
@@ -156,7 +132,7 @@ fn refuse(bus: Bus, refusal: Refusal) -> Framed
     let line = [0; 17];
     Framed {
         bus,
-        shown: Shown::Refused(refusal),
+        shown: Err(refusal),
         line,
     }
 }

@@ -14,7 +14,6 @@ use lib.ListN.{length, drop, replicate, set}
 use lib.Seq.{set_at}
 use Rattle.base.proofs.Cases.{cases}
 use Rattle.bus.specs.Bus.{most, count_of, added_to}
-use Rattle.bus.specs.declared.Adding.TheVariants.{Place}
 use Rattle.bus.specs.declared.Bus.{Bus}
 use Rattle.text.proofs.Writing.{fits_front}
 use Rattle.base.specs.Output.{copied}
@@ -25,14 +24,15 @@ use Rattle.wire.specs.Responses.{last_byte}
 use Rattle.busline_records.specs.Reading.{register_of}
 use Rattle.busline_records.specs.Record.{left_at}
 use Rattle.busline_records.specs.declared.Progress.{Progress}
+use Rattle.std.specs.Prelude.{Ok}
 
-pub place_below : (bus : Bus) (card : Card) (n : ℕ) → (added_to bus card).adding ≡ Place n → n < 30
+pub place_below : (bus : Bus) (card : Card) (n : ℕ) → (added_to bus card).adding ≡ Ok n → n < 30
 unfolding added_to
 place_below bus card n e =
     cases (ltb (count_of bus) most)
     (λ (t : ltb (count_of bus) most ≡ true).
     let h : count_of bus < most = ltb-true (count_of bus) most t in
-    let p : Place (count_of bus) ≡ Place n = rw t at e in
+    let p : Ok (count_of bus) ≡ Ok n = rw t at e in
     let q : count_of bus ≡ n = cc in
     omega arith)
     (λ (t : ltb (count_of bus) most ≡ false).

@@ -2,19 +2,17 @@
 ghost use Rattle.std.specs.Prelude.{◌≡◌};
 ghost use Rattle.card.specs.Frame.{framed, commanded, frame_judged, skip_told, frame_told, frame_stepped, changed, changed_by, command_heard};
 ghost use Rattle.base.specs.Refusals.{by};
-ghost use Rattle.card_blocks.specs.declared.Outcome.TheVariants.{Done, Refused};
 ghost use Rattle.command.specs.Command.{met_by};
 ghost use Rattle.spi.specs.Hearing.{heard_of, damaged_of};
 ghost use Rattle.store.specs.Lent.{lent_of, seen};
 
 use crate::Answered;
 use base::Refusal;
-use card_blocks::{Outcome, Reply, Stepped, refuse};
+use card_blocks::{Reply, Stepped, refuse};
 use card_record::{Card, Link, Mode};
 use command::{Change, Met};
 use status::ErrorBit;
-use store::Lending;
-use wire::Framing;
+use wire::Fields;
 
 // Bit 15, which waits for the next R1, where an erase spared a sector.
 fn tell_spared(link: Link, spared: bool) -> Link
@@ -86,7 +84,7 @@ fn commanded(
     memory: &mut [u8],
     map: &mut [u8],
 ) -> Stepped
-    ensures answer { result ≡ frame_told card (seen (lent_of memory.old map.old)) (commanded card Done (heard_of card.mode selected card.link (met_by card wins) index argument)) }
+    ensures answer { result ≡ frame_told card (seen (lent_of memory.old map.old)) (commanded card (Ok None) (heard_of card.mode selected card.link (met_by card wins) index argument)) }
     ensures lent { lent_of memory.new map.new ≡ changed_by card (heard_of card.mode selected card.link (met_by card wins) index argument).change (lent_of memory.old map.old) }
 {
     let registers = card.registers;
@@ -113,7 +111,7 @@ fn commanded(
             ..card
         },
         reply: Reply {
-            outcome: Outcome::Done,
+            outcome: Ok(None),
             sent,
         },
     }
@@ -121,7 +119,7 @@ fn commanded(
 
 // A frame whose CRC7 is wrong, where that counts.
 fn damaged(card: Card, selected: bool) -> Stepped
-    ensures { result ≡ (commanded card (Refused (by 3)) (damaged_of card.mode selected card.link)).stepped }
+    ensures { result ≡ (commanded card (Err (by 3)) (damaged_of card.mode selected card.link)).stepped }
 {
     let mode = card.mode;
     let link = card.link;
@@ -136,7 +134,7 @@ fn damaged(card: Card, selected: bool) -> Stepped
             ..card
         },
         reply: Reply {
-            outcome: Outcome::Refused(Refusal::FrameCrc),
+            outcome: Err(Refusal::FrameCrc),
             sent,
         },
     }
@@ -147,7 +145,7 @@ fn framed(
     card: Card,
     wins: bool,
     selected: bool,
-    framing: Framing,
+    framing: Result<Fields, Refusal>,
     memory: &mut [u8],
     map: &mut [u8],
 ) -> Stepped
@@ -155,18 +153,20 @@ fn framed(
     ensures lent { lent_of memory.new map.new ≡ changed_by card (framed card wins selected framing).change (lent_of memory.old map.old) }
 {
     match framing {
-        Framing::Framed {
-            index,
-            argument,
-            crc_right,
-        } => {
+        Ok(
+            Fields {
+                index,
+                argument,
+                crc_right,
+            },
+        ) => {
             if spi::crc_passes(card.mode, index, crc_right) {
                 commanded(card, wins, selected, index, argument, memory, map)
             } else {
                 damaged(card, selected)
             }
         }
-        Framing::Unframed(refusal) => refuse(card, refusal),
+        Err(refusal) => refuse(card, refusal),
     }
 }
 
@@ -183,12 +183,11 @@ pub fn frame(
     ensures answer { result ≡ frame_stepped card wins selected frame.now (seen (lent_of memory.old map.old)) }
     ensures lent { lent_of memory.new map.new ≡ changed_by card (frame_judged card wins selected frame.now (seen (lent_of memory.old map.old))).change (lent_of memory.old map.old) }
 {
-    let lending = store::lent_check(memory.len(), map, card.registers.groups as usize);
-    match lending {
-        Lending::Right => {
+    match store::lent_check(memory.len(), map, card.registers.groups as usize) {
+        Ok(()) => {
             let framing = wire::unframe(frame);
             framed(card, wins, selected, framing, memory, map)
         }
-        Lending::Refused(refusal) => refuse(card, refusal),
+        Err(refusal) => refuse(card, refusal),
     }
 }

@@ -7,13 +7,12 @@ ghost use Rattle.store.specs.Lent.{lent_of, seen};
 
 use crate::framing::{beside, crc_right, reply, started, unstarted};
 use crate::replies::refuse;
-use crate::{BlockJudged, Outcome, Stepped, Storing};
+use crate::{BlockJudged, Stepped, Storing};
 use base::{Refusal, SECTOR, copy};
 use card_record::{Card, Link};
 use lock::Answer;
 use states::{Incoming, State};
-use status::{ErrorBit, Errors, Fault};
-use store::Lending;
+use status::{ErrorBit, Errors};
 
 // The bytes of a sector, as a length.
 const SECTOR_LENGTH: usize = SECTOR as usize;
@@ -60,17 +59,22 @@ fn after_stored(incoming: Incoming, next: u32) -> State
     }
 }
 
-fn with_fault(errors: Errors, fault: Fault) -> Errors
+fn with_fault(errors: Errors, fault: Option<ErrorBit>) -> Errors
     ensures { result ≡ with_fault errors fault }
 {
     match fault {
-        Fault::None => errors,
-        Fault::Bit(bit) => status::set(errors, bit),
+        None => errors,
+        Some(bit) => status::set(errors, bit),
     }
 }
 
 // A refused block: the move and the error bit that document 01 gives it, and nothing stored.
-fn block_refused(card: Card, incoming: Incoming, refusal: Refusal, fault: Fault) -> BlockJudged
+fn block_refused(
+    card: Card,
+    incoming: Incoming,
+    refusal: Refusal,
+    fault: Option<ErrorBit>,
+) -> BlockJudged
     ensures { result ≡ block_refused card incoming refusal fault }
 {
     let link = card.link;
@@ -84,7 +88,7 @@ fn block_refused(card: Card, incoming: Incoming, refusal: Refusal, fault: Fault)
         ..card
     };
     BlockJudged {
-        stepped: reply(next, Outcome::Refused(refusal)),
+        stepped: reply(next, Err(refusal)),
         storing: Storing::Nothing,
     }
 }
@@ -99,7 +103,7 @@ fn block_good(card: Card, state: State, storing: Storing) -> BlockJudged
         ..card
     };
     BlockJudged {
-        stepped: reply(next, Outcome::Done),
+        stepped: reply(next, Ok(None)),
         storing,
     }
 }
@@ -110,12 +114,7 @@ fn write_judged(card: Card, incoming: Incoming, sector: u32, map: &[u8]) -> Bloc
 {
     let registers = card.registers;
     if card_record::size(registers.groups) / SECTOR <= sector {
-        return block_refused(
-            card,
-            incoming,
-            Refusal::PastEnd,
-            Fault::Bit(ErrorBit::OutOfRange),
-        );
+        return block_refused(card, incoming, Refusal::PastEnd, Some(ErrorBit::OutOfRange));
     }
     let csd = registers.csd;
     let whole = card_record::csd_protects(csd);
@@ -124,7 +123,7 @@ fn write_judged(card: Card, incoming: Incoming, sector: u32, map: &[u8]) -> Bloc
             card,
             incoming,
             Refusal::Protected,
-            Fault::Bit(ErrorBit::WpViolation),
+            Some(ErrorBit::WpViolation),
         );
     }
     let state = after_stored(incoming, sector * SECTOR + SECTOR);
@@ -153,7 +152,7 @@ fn lock_judged(card: Card, payload: &[u8]) -> BlockJudged
             card,
             Incoming::LockRequest,
             Refusal::LockFailed,
-            Fault::Bit(ErrorBit::LockUnlockFailed),
+            Some(ErrorBit::LockUnlockFailed),
         ),
     }
 }
@@ -179,7 +178,7 @@ fn checked_judged(card: Card, incoming: Incoming, block: &[u8], map: &[u8]) -> B
     ensures { result ≡ checked_judged card incoming block.now map.now }
 {
     if !crc_right(card.mode, block) {
-        return block_refused(card, incoming, Refusal::BlockCrc, Fault::None);
+        return block_refused(card, incoming, Refusal::BlockCrc, None);
     }
     let n = block.len() - 2;
     carried_out(card, incoming, &block[0..n], map)
@@ -208,7 +207,7 @@ fn wrong_length(card: Card, incoming: Incoming) -> BlockJudged
         card,
         incoming,
         Refusal::BlockLength,
-        Fault::Bit(ErrorBit::BlockLenError),
+        Some(ErrorBit::BlockLenError),
     )
 }
 
@@ -277,9 +276,8 @@ pub fn block_in(card: Card, block: &[u8], memory: &mut [u8], map: &mut [u8]) -> 
     ensures answer { result ≡ (block_judged card block.now (seen (lent_of memory.old map.old))).stepped }
     ensures lent { lent_of memory.new map.new ≡ stored_by (unstarted card.mode.spi block.now) (block_judged card block.now (seen (lent_of memory.old map.old))).storing (lent_of memory.old map.old) }
 {
-    let lending = store::lent_check(memory.len(), map, card.registers.groups as usize);
-    match lending {
-        Lending::Right => taken_in(card, block, memory, map),
-        Lending::Refused(refusal) => refuse(card, refusal),
+    match store::lent_check(memory.len(), map, card.registers.groups as usize) {
+        Ok(()) => taken_in(card, block, memory, map),
+        Err(refusal) => refuse(card, refusal),
     }
 }

@@ -6,12 +6,11 @@ ghost use Rattle.wire.specs.Blocks.{block_of};
 
 use crate::framing::{START, beside};
 use crate::replies::refuse;
-use crate::{OutJudged, Outcome, Reply, Sending, Stepped};
-use base::{Refusal, Written};
+use crate::{OutJudged, Reply, Sending, Stepped};
+use base::Refusal;
 use card_record::{Card, Link, Registers, Sent};
 use states::{Outgoing, State};
 use status::ErrorBit;
-use store::Lending;
 
 fn unsent(card: Card, refusal: Refusal) -> OutJudged
     ensures { result ≡ unsent card refusal }
@@ -50,7 +49,7 @@ fn out_good(card: Card, state: State, n: u16, sending: Sending) -> OutJudged
                 ..card
             },
             reply: Reply {
-                outcome: Outcome::Wrote(n as usize + beside(card.mode.spi)),
+                outcome: Ok(Some(n as usize + beside(card.mode.spi))),
                 sent: Sent::Nothing,
             },
         },
@@ -172,11 +171,7 @@ fn send_bytes(bytes: &[u8], out: &mut [u8]) -> bool
     ensures answer { result ≡ sent_whole (block_of bytes.now) (length out.old) }
     ensures output { out.new ≡ block_laid false (block_of bytes.now) out.old }
 {
-    let written = wire::write_block(bytes, out);
-    match written {
-        Written::Bytes(_) => true,
-        Written::Refused(_) => false,
-    }
+    wire::write_block(bytes, out).is_ok()
 }
 
 // The protection bits as four bytes, highest first.
@@ -258,9 +253,8 @@ pub fn block_out(card: Card, memory: &[u8], map: &[u8], out: &mut [u8]) -> Stepp
     ensures answer { result ≡ (out_judged card (seen (lent_of memory.now map.now)) (length out.old)).stepped }
     ensures output { out.new ≡ sent_out card (lent_of memory.now map.now) (out_judged card (seen (lent_of memory.now map.now)) (length out.old)).sending out.old }
 {
-    let lending = store::lent_check(memory.len(), map, card.registers.groups as usize);
-    match lending {
-        Lending::Right => given_out(card, memory, map, out),
-        Lending::Refused(refusal) => refuse(card, refusal),
+    match store::lent_check(memory.len(), map, card.registers.groups as usize) {
+        Ok(()) => given_out(card, memory, map, out),
+        Err(refusal) => refuse(card, refusal),
     }
 }

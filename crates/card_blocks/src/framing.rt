@@ -4,9 +4,9 @@ ghost use Rattle.std.specs.Prelude.{◌≡◌, ◌≤◌, length};
 ghost use Rattle.card_blocks.specs.BlockIn.{block_replied};
 ghost use Rattle.card_blocks.specs.Framing.{beside, started, unstarted, crc_right, response_to};
 
-use crate::{Outcome, Reply, Stepped};
+use crate::{Reply, Stepped};
+use base::Refusal;
 use card_record::{Card, Mode, Sent};
-use wire::Checked;
 
 pub const START: u8 = 0xFE;
 
@@ -52,28 +52,19 @@ pub fn crc_right(mode: Mode, block: &[u8]) -> bool
     requires { (3 ≤ length block.now) × (length block.now ≤ 2050) }
     ensures { result ≡ crc_right mode block.now }
 {
-    if mode.spi {
-        if !mode.checks {
-            return true;
-        }
-    }
-    let checked = wire::check_block(block);
-    match checked {
-        Checked::Payload(_) => true,
-        Checked::Refused(_) => false,
-    }
+    mode.spi && !mode.checks || wire::check_block(block).is_ok()
 }
 
-fn response_to(spi: bool, outcome: Outcome) -> Sent
+fn response_to(spi: bool, outcome: Result<Option<usize>, Refusal>) -> Sent
     ensures { result ≡ response_to spi outcome }
 {
     if !spi {
         return Sent::Nothing;
     }
     match outcome {
-        Outcome::Done => Sent::DataResponse(ACCEPTED),
-        Outcome::Wrote(_) => Sent::Nothing,
-        Outcome::Refused(refusal) => {
+        Ok(None) => Sent::DataResponse(ACCEPTED),
+        Ok(Some(_)) => Sent::Nothing,
+        Err(refusal) => {
             if base::number(refusal) == 17 {
                 return Sent::DataResponse(CRC_WRONG);
             }
@@ -83,7 +74,7 @@ fn response_to(spi: bool, outcome: Outcome) -> Sent
 }
 
 // What became of a block that was awaited, with its data response.
-pub fn reply(card: Card, outcome: Outcome) -> Stepped
+pub fn reply(card: Card, outcome: Result<Option<usize>, Refusal>) -> Stepped
     ensures { result ≡ block_replied card outcome }
 {
     let sent = response_to(card.mode.spi, outcome);

@@ -2,7 +2,7 @@
 // answer that every call of a card has. Each judges by value, from the record, the input, the map and
 // the lengths of the rest, and then changes what is lent. No call has a `requires`.
 //
-// Offers: `Outcome`, `Reply`, `Stepped`, `refuse`, `done`; `block_in`, `block_out`; `taken_in` and
+// Offers: `Reply`, `Stepped`, `refuse`, `done`; `block_in`, `block_out`; `taken_in` and
 // `given_out`, what these two do once what is lent was found right. The other types are what judging
 // gives: the definitions name them.
 #![tactic(auto)]
@@ -18,19 +18,11 @@ pub use blocks_out::{block_out, given_out};
 use card_record::{Card, Sent};
 pub use replies::{done, refuse};
 
-// What became of a call: it was carried out; it wrote so many bytes at the front of the output; the
-// refusal.
-#[derive(Clone, Copy)]
-pub enum Outcome {
-    Done,
-    Wrote(usize),
-    Refused(Refusal),
-}
-
-// A call's answer: what became of it, and what the card sends.
+// A call's answer: that it was carried out, with how many bytes it wrote at the front of the output
+// where it is a block out, or the refusal; and what the card sends.
 #[derive(Clone, Copy)]
 pub struct Reply {
-    pub outcome: Outcome,
+    pub outcome: Result<Option<usize>, Refusal>,
     pub sent: Sent,
 }
 

@@ -3,7 +3,7 @@
 // done; and what it sends of it. Any value of the record may come in, so no call has a `requires`.
 //
 // Offers: `Registers`, `Link`, `Mode`, `Card`; `size`, `csd_protects`, `read_length`, `crosses`, `fresh`,
-// `mmc_mode`; `power_on`, `work_done`; `Making`, `Made`, `make`, `refused_make`; `Sent`, `write_sent`.
+// `mmc_mode`; `power_on`, `work_done`; `Made`, `make`, `refused_make`; `Sent`, `write_sent`.
 #![tactic(auto)]
 
 mod sending;
@@ -57,18 +57,11 @@ pub struct Card {
     pub mode: Mode,
 }
 
-// Whether a card was made, or the refusal.
-#[derive(Clone, Copy)]
-pub enum Making {
-    Done,
-    Refused(Refusal),
-}
-
-// A made card; a refused make gives one fixed record.
+// A made card, or the refusal and one fixed record: document 01 has a refused make leave that one.
 #[derive(Clone, Copy)]
 pub struct Made {
     pub card: Card,
-    pub making: Making,
+    pub making: Result<(), Refusal>,
 }
 
 // What a card sends: nothing; in MMC mode R1, R2 with the CID or the CSD, R3; in SPI R1, R2, R3 with
@@ -228,7 +221,7 @@ fn fail(refusal: Refusal) -> Made
 {
     Made {
         card: refused_make(),
-        making: Making::Refused(refusal),
+        making: Err(refusal),
     }
 }
 
@@ -271,22 +264,20 @@ pub fn make(
 }
 
 // The last of the checks of making, 11, and the card.
+#[tactic(auto, unfolding(crate::specs::Making::password_made))]
 fn with_password(registers: Registers, password: &[u8]) -> Made
     ensures { result ≡ password_made registers password.now }
 {
-    let made = lock::make(password);
-    let lock = made.lock;
-    let making = made.making;
-    match making {
-        lock::Making::Done => Made {
+    match lock::make(password) {
+        Ok(lock) => Made {
             card: Card {
                 registers,
                 lock,
                 link: fresh(),
                 mode: mmc_mode(),
             },
-            making: Making::Done,
+            making: Ok(()),
         },
-        lock::Making::Refused(refusal) => fail(refusal),
+        Err(refusal) => fail(refusal),
     }
 }

@@ -6,24 +6,24 @@ ghost use Rattle.base.specs.Output.{fits, laid};
 ghost use Rattle.card_record.specs.Sending.{spi_r3_bytes, sent_bytes, sent_written};
 
 use crate::{Registers, Sent};
-use base::{Refusal, Written, copy};
+use base::{Refusal, copy};
 use wire::{R1, R2, R3};
 
 // Bytes at the front of the output: 6.
-fn lay(bytes: &[u8], out: &mut [u8]) -> Written
+fn lay(bytes: &[u8], out: &mut [u8]) -> Result<usize, Refusal>
     ensures answer { result ≡ fits bytes.now out.old }
     ensures output { out.new ≡ laid result bytes.now out.old }
 {
     let n = bytes.len();
     if out.len() < n {
-        return Written::Refused(Refusal::OutputShort);
+        return Err(Refusal::OutputShort);
     }
     copy(bytes, out, 0);
-    Written::Bytes(n)
+    Ok(n)
 }
 
 // R3 of SPI: R1's byte, and the OCR as R3 of MMC mode has it.
-fn write_spi_r3(first: u8, ocr: u32, out: &mut [u8]) -> Written
+fn write_spi_r3(first: u8, ocr: u32, out: &mut [u8]) -> Result<usize, Refusal>
     ensures answer { result ≡ fits (spi_r3_bytes first ocr) out.old }
     ensures output { out.new ≡ laid result (spi_r3_bytes first ocr) out.old }
 {
@@ -38,12 +38,12 @@ fn write_spi_r3(first: u8, ocr: u32, out: &mut [u8]) -> Written
 }
 
 // What a card sends, written as the writers of `wire` write it.
-pub fn write_sent(registers: Registers, sent: Sent, out: &mut [u8]) -> Written
+pub fn write_sent(registers: Registers, sent: Sent, out: &mut [u8]) -> Result<usize, Refusal>
     ensures answer { result ≡ sent_written registers sent out.old }
     ensures output { out.new ≡ laid result (sent_bytes registers sent) out.old }
 {
     match sent {
-        Sent::Nothing => Written::Bytes(0),
+        Sent::Nothing => Ok(0),
         Sent::Status { index, status } => wire::write_r1(R1 { index, status }, out),
         Sent::Cid => {
             let cid = registers.cid;

@@ -17,8 +17,6 @@ use Rattle.cardline_records.specs.Record.{asked_text, asked_buffers, asked_said,
 use Rattle.cardline_records.specs.Transcript.{Kept, kept, record_step, piece_of}
 use Rattle.cardline_records.specs.declared.Progress.{Progress}
 use Rattle.card_record.specs.declared.Card.{Card}
-use Rattle.card_record.specs.declared.Making.{Making as Outcome}
-use Rattle.card_record.specs.declared.Making.TheVariants.{Done, Refused}
 use Rattle.cardline_script.specs.Reading.{asked_of}
 use Rattle.cardline_script.specs.declared.Asked.{Asked}
 use Rattle.cardline_script.specs.declared.Asked.TheVariants as asked
@@ -27,12 +25,14 @@ use Rattle.playing.proofs.Turns.{kinds, none, goes, stops, waits}
 use Rattle.playing.specs.Playing.{Played, behind, unplayed}
 use Rattle.playing.specs.declared.Then.TheVariants.{Goes, Stops, Waits, NoRoom}
 use Rattle.store.specs.Lent.{Lent}
+use Rattle.std.specs.Prelude.{Result, Ok, Err}
+use Rattle.base.specs.declared.Refusal.{Refusal}
 
 -- a make does not wait, and where there is room there is room
-make_settled : (w : Progress) (m : Making) (card : Card) (outcome : Outcome) (n : ℕ)
+make_settled : (w : Progress) (m : Making) (card : Card) (outcome : Result Unit Refusal) (n : ℕ)
     → ((make_said w m card outcome n).then ≡ Waits → ⊥) × ((make_said w m card outcome n).then ≡ NoRoom → ⊥)
-make_settled w m card Done n = (λ e. clash cc, λ e. clash cc)
-make_settled w m card (Refused refusal) n = (λ e. clash cc, λ e. clash cc)
+make_settled w m card (Ok tt) n = (λ e. clash cc, λ e. clash cc)
+make_settled w m card (Err refusal) n = (λ e. clash cc, λ e. clash cc)
 
 module _ (s : List ℕ) (lent : Lent) (w : Progress) (n : ℕ) where
   -- a record that is waited for prints nothing and changes nothing

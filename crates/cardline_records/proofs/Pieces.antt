@@ -22,8 +22,6 @@ use Rattle.cardline_records.specs.Transcript.{Kept, record_step, fresh_kept, clo
 use Rattle.cardline_records.specs.Progress.{fresh_progress}
 use Rattle.cardline_records.specs.declared.Progress.{Progress}
 use Rattle.card_record.specs.declared.Card.{Card}
-use Rattle.card_record.specs.declared.Making.{Making as Outcome}
-use Rattle.card_record.specs.declared.Making.TheVariants.{Done, Refused}
 use Rattle.cardline_script.proofs.Whole.{Bytes, stays, inside, short}
 use Rattle.cardline_script.specs.Reading.{asked_of}
 use Rattle.cardline_script.specs.Whole.{waits, used_by, used_looked, used_wiring, used_going, used_asked, longest_record}
@@ -42,6 +40,8 @@ use Rattle.playing.proofs.Joined.{Steady, joined, stopped_whole, waited_whole}
 use Rattle.playing.specs.Playing.{Played, unplayed, played_of, next_piece, fed_all, all_of}
 use Rattle.playing.specs.declared.Then.TheVariants.{Goes, Stops, Waits, NoRoom}
 use Rattle.store.specs.Lent.{Lent}
+use Rattle.std.specs.Prelude.{Result, Ok, Err}
+use Rattle.base.specs.declared.Refusal.{Refusal}
 
 -- each kind of record has a byte or more
 call_uses : (c : Calling) → 1 ≤ used_by c
@@ -70,17 +70,17 @@ going_takes (Wire wiring) = wire_uses wiring
 
 -- what is said of a record that goes on: it used what it asked for
 module _ (w : Progress) (m : Making) (card : Card) (n : ℕ) where
-  make_used : (outcome : Outcome) → (make_said w m card outcome n).then ≡ Goes → (make_said w m card outcome n).used ≡ m.map + 43 + m.password
-  make_used Done e = refl
-  make_used (Refused refusal) e = clash cc
+  make_used : (outcome : Result Unit Refusal) → (make_said w m card outcome n).then ≡ Goes → (make_said w m card outcome n).used ≡ m.map + 43 + m.password
+  make_used (Ok tt) e = refl
+  make_used (Err refusal) e = clash cc
 
-  make_settled : (outcome : Outcome) → (make_said w m card outcome n).then ≡ Waits → ⊥
-  make_settled Done e = clash cc
-  make_settled (Refused refusal) e = clash cc
+  make_settled : (outcome : Result Unit Refusal) → (make_said w m card outcome n).then ≡ Waits → ⊥
+  make_settled (Ok tt) e = clash cc
+  make_settled (Err refusal) e = clash cc
 
-  make_wrote : (outcome : Outcome) → (make_said w m card outcome n).wrote ≡ n
-  make_wrote Done = refl
-  make_wrote (Refused refusal) = refl
+  make_wrote : (outcome : Result Unit Refusal) → (make_said w m card outcome n).wrote ≡ n
+  make_wrote (Ok tt) = refl
+  make_wrote (Err refusal) = refl
 
 module _ (s : List ℕ) (buffers : Lent) (w : Progress) (n : ℕ) where
   asked_used : (a : Asked) → (asked_said w a s buffers n).then ≡ Goes → (asked_said w a s buffers n).used ≡ used_asked a

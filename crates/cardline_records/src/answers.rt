@@ -6,9 +6,9 @@ ghost use Rattle.cardline_looks.specs.Lines.{line_room};
 ghost use Rattle.cardline_records.specs.Calls.{shown_text, sent_text, beside_bytes, beside_text, refused_text, frame_text, good_text, taken_text, block_text, reply_text};
 ghost use Rattle.text.specs.Writing.{Put, Line};
 
-use base::{Refusal, Written};
+use base::Refusal;
 use card::Call;
-use card_blocks::{Outcome, Reply};
+use card_blocks::Reply;
 use card_record::{Registers, Sent};
 use cardline_looks::lines::{refused, say_number};
 use text::lines::{ending, head, number, put, say};
@@ -30,8 +30,8 @@ fn sent_line(count: u64, registers: Registers, sent: Sent, out: &mut [u8]) -> us
     let mut bytes = [0u8; 17];
     let written = card_record::write_sent(registers, sent, &mut bytes);
     match written {
-        Written::Bytes(n) => shown(count, part(&bytes, 0, n), out),
-        Written::Refused(refusal) => refused(count, refusal, b"", out),
+        Ok(n) => shown(count, part(&bytes, 0, n), out),
+        Err(refusal) => refused(count, refusal, b"", out),
     }
 }
 
@@ -54,8 +54,8 @@ fn sent_beside(word: &[u8], registers: Registers, sent: Sent, out: &mut [u8], at
     let mut bytes = [0u8; 17];
     let written = card_record::write_sent(registers, sent, &mut bytes);
     match written {
-        Written::Bytes(n) => beside(word, part(&bytes, 0, n), out, at),
-        Written::Refused(_) => beside(word, b"", out, at),
+        Ok(n) => beside(word, part(&bytes, 0, n), out, at),
+        Err(_) => beside(word, b"", out, at),
     }
 }
 
@@ -81,9 +81,9 @@ fn frame_line(count: u64, registers: Registers, reply: Reply, out: &mut [u8]) ->
     let outcome = reply.outcome;
     let sent = reply.sent;
     match outcome {
-        Outcome::Done => sent_line(count, registers, sent, out),
-        Outcome::Wrote(_) => sent_line(count, registers, sent, out),
-        Outcome::Refused(refusal) => refused_line(count, refusal, b"line", registers, sent, out),
+        Ok(None) => sent_line(count, registers, sent, out),
+        Ok(Some(_)) => sent_line(count, registers, sent, out),
+        Err(refusal) => refused_line(count, refusal, b"line", registers, sent, out),
     }
 }
 
@@ -101,21 +101,24 @@ fn taken_line(count: u64, registers: Registers, reply: Reply, out: &mut [u8]) ->
     let outcome = reply.outcome;
     let sent = reply.sent;
     match outcome {
-        Outcome::Done => good_line(count, registers, sent, out),
-        Outcome::Wrote(_) => good_line(count, registers, sent, out),
-        Outcome::Refused(refusal) => {
-            refused_line(count, refusal, b"response", registers, sent, out)
-        }
+        Ok(None) => good_line(count, registers, sent, out),
+        Ok(Some(_)) => good_line(count, registers, sent, out),
+        Err(refusal) => { refused_line(count, refusal, b"response", registers, sent, out) }
     }
 }
 
-fn block_line(count: u64, outcome: Outcome, output: &[u8], out: &mut [u8]) -> usize
+fn block_line(
+    count: u64,
+    outcome: Result<Option<usize>, Refusal>,
+    output: &[u8],
+    out: &mut [u8],
+) -> usize
     ensures { Line (line_room 7 (length output.now)) out.old out.new result (block_text count outcome output.now) }
 {
     match outcome {
-        Outcome::Done => say_number(count, b"block", 0, output, out),
-        Outcome::Wrote(n) => say_number(count, b"block", n as u64, output, out),
-        Outcome::Refused(refusal) => refused(count, refusal, output, out),
+        Ok(None) => say_number(count, b"block", 0, output, out),
+        Ok(Some(n)) => say_number(count, b"block", n as u64, output, out),
+        Err(refusal) => refused(count, refusal, output, out),
     }
 }
 

@@ -9,7 +9,7 @@ ghost use Rattle.text.specs.Writing.{Line};
 
 use crate::results::{ends, goes_on};
 use crate::{Progress, Said};
-use base::{copy, fill, least};
+use base::{Refusal, copy, fill, least};
 use card_record::{Card, Made};
 use cardline_script::numbers::four;
 use cardline_script::{Making, Sizes};
@@ -77,12 +77,12 @@ pub fn make(
     make_said(progress, making, made, wrote)
 }
 
-fn make_line(outcome: card_record::Making, out: &mut [u8]) -> usize
+fn make_line(outcome: Result<(), Refusal>, out: &mut [u8]) -> usize
     ensures { Line roomy out.old out.new result (make_text outcome) }
 {
     match outcome {
-        card_record::Making::Done => plain(b"made", out),
-        card_record::Making::Refused(refusal) => refused_by(refusal, out),
+        Ok(()) => plain(b"made", out),
+        Err(refusal) => refused_by(refusal, out),
     }
 }
 
@@ -110,11 +110,11 @@ fn make_said(progress: Progress, making: Making, made: Made, wrote: usize) -> Sa
 {
     let outcome = made.making;
     match outcome {
-        card_record::Making::Done => goes_on(
+        Ok(()) => goes_on(
             made_progress(making, made.card),
             making.map as usize + 43 + making.password as usize,
             wrote,
         ),
-        card_record::Making::Refused(_) => ends(progress, wrote),
+        Err(_) => ends(progress, wrote),
     }
 }

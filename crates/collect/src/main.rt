@@ -30,7 +30,7 @@ fn docked(bus: Bus, cid: [u8; 16]) -> Bus {
 // A command for all units.
 fn send(bus: Bus, index: u8, argument: u32) -> Framed {
     let mut frame = [0u8; 6];
-    wire::write_command(index, argument, &mut frame);
+    let _ = wire::write_command(index, argument, &mut frame);
     bus::frame(bus, &frame)
 }
 
@@ -77,7 +77,8 @@ fn reached(rt: &impl Print, heard: Bus, address: u32, place: usize) -> Bus {
 
 // The unit in a place is taken out, writes and reads by its own calls, and is put back.
 fn collected(rt: &impl Print, bus: Bus, place: usize) -> Bus {
-    let taken = bus::take(bus, place);
-    let card = own::exchanged(rt, taken.card);
-    bus::put(bus, place, card)
+    let Some(card) = bus::take(bus, place) else {
+        return bus;
+    };
+    bus::put(bus, place, own::exchanged(rt, card))
 }

@@ -2,7 +2,7 @@
 //
 // Offers: `made`, `exchanged`.
 use crate::say;
-use base::Written;
+use base::Refusal;
 use card::Call;
 use card_record::Card;
 use text::parts::part;
@@ -74,8 +74,8 @@ fn block(input: &mut [u8]) -> usize {
     length(wire::write_block(&payload, input))
 }
 
-fn length(answer: Written) -> usize {
-    let Written::Bytes(n) = answer else {
+fn length(answer: Result<usize, Refusal>) -> usize {
+    let Ok(n) = answer else {
         return 0;
     };
     n

@@ -1,6 +1,5 @@
 // What the program prints.
-use base::Written;
-use bus::Shown;
+use base::Refusal;
 use text::parts::part;
 
 fn say(rt: &impl Print, text: &[u8]) {
@@ -8,8 +7,8 @@ fn say(rt: &impl Print, text: &[u8]) {
 }
 
 // The front of a text, as long as the call that wrote it says, and words.
-fn written(rt: &impl Print, answer: Written, text: &[u8], words: &[u8]) {
-    if let Written::Bytes(n) = answer {
+fn written(rt: &impl Print, answer: Result<usize, Refusal>, text: &[u8], words: &[u8]) {
+    if let Ok(n) = answer {
         say(rt, part(text, 0, n));
     }
     say(rt, words);
@@ -29,8 +28,8 @@ fn hex(rt: &impl Print, bytes: &[u8], words: &[u8]) {
 }
 
 // What the line shows of CMD2: whether anybody answers.
-pub fn heard(rt: &impl Print, shown: Shown, line: [u8; 17]) -> bool {
-    let Shown::Line(n) = shown else {
+pub fn heard(rt: &impl Print, shown: Result<Option<usize>, Refusal>, line: [u8; 17]) -> bool {
+    let Ok(Some(n)) = shown else {
         say(rt, b"nobody answers\n");
         return false;
     };

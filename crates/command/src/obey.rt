@@ -11,7 +11,7 @@ use base::PROTECTION_GROUP;
 use card_record::Link;
 use moves::Class;
 use states::{Column, Incoming, Outgoing, State};
-use status::{ErrorBit, Errors, Fault};
+use status::{ErrorBit, Errors};
 use tags::{Kind, Tagging, Tags};
 
 // Whether a command other than the erase commands drops tags.
@@ -61,12 +61,12 @@ fn erase_tagging(tags: Tags) -> Tagging
     if !tags::complete(tags) {
         return Tagging {
             tags: tags::no_tags(),
-            error: Fault::Bit(ErrorBit::EraseSeqError),
+            error: Some(ErrorBit::EraseSeqError),
         };
     }
     Tagging {
         tags: tags::no_tags(),
-        error: Fault::None,
+        error: None,
     }
 }
 
@@ -78,7 +78,7 @@ fn tagging(link: Link, size: u32, index: u8, argument: u32) -> Tagging
     match index {
         13 => Tagging {
             tags: held,
-            error: Fault::None,
+            error: None,
         },
         32 => tags::tag_start(Kind::Sectors, argument, size),
         33 => tags::tag_end(held, Kind::Sectors, argument, size),
@@ -99,7 +99,7 @@ fn judge(link: Link, groups: u16, locked: bool, index: u8, argument: u32) -> Tag
     if !passes_lock(locked, index) {
         return Tagging {
             tags: tags::no_tags(),
-            error: Fault::Bit(ErrorBit::LockUnlockFailed),
+            error: Some(ErrorBit::LockUnlockFailed),
         };
     }
     tagging(link, card_record::size(groups), index, argument)
@@ -220,12 +220,12 @@ pub fn act(link: Link, met: Met, index: u8, argument: u32, column: Column) -> Ac
     let tags = judged.tags;
     let fault = judged.error;
     match fault {
-        Fault::None => Acted {
+        None => Acted {
             link: obey(link, index, argument, column, tags),
             errors,
             change: change_of(index, argument),
         },
-        Fault::Bit(bit) => Acted {
+        Some(bit) => Acted {
             link: Link { tags, ..link },
             errors: status::set(errors, bit),
             change: Change::Nothing,

@@ -22,13 +22,12 @@ use Rattle.card_record.specs.declared.Card.{Card}
 use Rattle.crossing.proofs.Crossing.{link_and_lock_told, own_password}
 use Rattle.crossing.specs.Record.{link_of, mode_of, lock_of, card_of, link_numbers, mode_numbers, lock_numbers}
 use Rattle.store.specs.Lent.{Lent, seen, lending_of, once_lent}
-use Rattle.store.specs.declared.Lending.{Lending}
-use Rattle.store.specs.declared.Lending.TheVariants.{Refused}
 use Rattle.firmware.specs.Answers.{outcome_number, byte_sent, leaves_record, numbers_after, fronted, wrote_of}
 use Rattle.firmware.proofs.Kept.{Stays, InKept, in_kept, in_stays, OutKept, out_kept, out_stays}
 use Rattle.firmware.proofs.Sends.{in_byte}
 use Rattle.firmware.proofs.Told.{lock_front, after_left, after_told, linked}
 use Rattle.firmware.proofs.Left.{unlent_leaves}
+use Rattle.std.specs.Prelude.{Result, Err}
 
 module _ (numbers cid csd password : List ℕ) where
   abbrev card : Card
@@ -59,18 +58,18 @@ module _ (numbers cid csd password : List ℕ) where
     abbrev InLeft : ℕ → List ℕ → List ℕ → Lent → List ℕ → ℕ → Type 0
     InLeft = InBy judged_in.stepped (left_in judged_in)
 
-    pub in_judged : (lending : Lending) → lending_of (seen lent) card.registers.groups ≡ lending
+    pub in_judged : (lending : Result Unit Refusal) → lending_of (seen lent) card.registers.groups ≡ lending
         → once_lent lending (unread card) (state_judged card card.link.state block lent.map) ≡ judged_in
     unfolding block_judged
     in_judged lending e =
-        sym (ap (λ (l : Lending). once_lent l (unread card) (state_judged card card.link.state block lent.map)) e)
+        sym (ap (λ (l : Result Unit Refusal). once_lent l (unread card) (state_judged card card.link.state block lent.map)) e)
 
-    pub in_unlent : (refusal : Refusal) (r : ℕ) → lending_of (seen lent) card.registers.groups ≡ Refused refusal → r ≡ number_of refusal
+    pub in_unlent : (refusal : Refusal) (r : ℕ) → lending_of (seen lent) card.registers.groups ≡ Err refusal → r ≡ number_of refusal
         → InLeft r numbers password lent response 0
     unfolding sent_bytes
     in_unlent refusal r e n =
         let leaves = ap leaves_record n ∙ unlent_leaves (seen lent) card.registers.groups refusal e in
-        subst (λ (j : BlockJudged). InBy j.stepped (left_in j) r numbers password lent response 0) (in_judged (Refused refusal) e)
+        subst (λ (j : BlockJudged). InBy j.stepped (left_in j) r numbers password lent response 0) (in_judged (Err refusal) e)
         (n, ((after_left r (told_in card) numbers leaves, refl), (sym (own_password numbers cid csd password), (refl, (refl, refl)))))
 
     -- the data response, a byte or nothing
@@ -125,17 +124,17 @@ module _ (numbers cid csd password : List ℕ) where
     abbrev OutLeft : ℕ → List ℕ → List ℕ → ℕ → Type 0
     OutLeft = OutBy judged_out.stepped (sent_out card lent judged_out.sending out)
 
-    pub out_judged_lem : (lending : Lending) → lending_of (seen lent) card.registers.groups ≡ lending
+    pub out_judged_lem : (lending : Result Unit Refusal) → lending_of (seen lent) card.registers.groups ≡ lending
         → once_lent lending (unsent card) (state_sends card card.link.state (length out)) ≡ judged_out
     unfolding out_judged
-    out_judged_lem lending e = sym (ap (λ (l : Lending). once_lent l (unsent card) (state_sends card card.link.state (length out))) e)
+    out_judged_lem lending e = sym (ap (λ (l : Result Unit Refusal). once_lent l (unsent card) (state_sends card card.link.state (length out))) e)
 
-    pub out_unlent : (refusal : Refusal) (r : ℕ) → lending_of (seen lent) card.registers.groups ≡ Refused refusal → r ≡ number_of refusal
+    pub out_unlent : (refusal : Refusal) (r : ℕ) → lending_of (seen lent) card.registers.groups ≡ Err refusal → r ≡ number_of refusal
         → OutLeft r numbers out 0
     unfolding sent_out
     out_unlent refusal r e n =
         let leaves = ap leaves_record n ∙ unlent_leaves (seen lent) card.registers.groups refusal e in
-        subst (λ (j : OutJudged). OutBy j.stepped (sent_out card lent j.sending out) r numbers out 0) (out_judged_lem (Refused refusal) e)
+        subst (λ (j : OutJudged). OutBy j.stepped (sent_out card lent j.sending out) r numbers out 0) (out_judged_lem (Err refusal) e)
         (n, ((after_left r (link_numbers card.link ++ mode_numbers card.mode) numbers leaves, refl), (refl, refl)))
 
     pub out_left : (stepped : Stepped) (r : ℕ) (now : List ℕ) (written : ℕ) → stepped ≡ judged_out.stepped

@@ -2,17 +2,17 @@
 ghost use Rattle.std.specs.Prelude.{◌≡◌, ◌≤◌, length};
 ghost use Rattle.firmware.specs.Answers.{outcome_number, making_number, leaves_record, byte_sent, fronted, wrote_of};
 
-use card_blocks::Outcome;
-use card_record::{Making, Sent};
+use base::Refusal;
+use card_record::Sent;
 
 // The number of what became of a call.
-pub fn outcome_number(outcome: Outcome) -> u8
+pub fn outcome_number(outcome: Result<Option<usize>, Refusal>) -> u8
     ensures answer { result ≡ outcome_number outcome }
 {
     match outcome {
-        Outcome::Done => 0,
-        Outcome::Wrote(_) => 0,
-        Outcome::Refused(refusal) => base::number(refusal),
+        Ok(None) => 0,
+        Ok(Some(_)) => 0,
+        Err(refusal) => base::number(refusal),
     }
 }
 
@@ -40,23 +40,23 @@ pub fn leaves_record(number: u8) -> bool
 }
 
 // The number of what became of a make.
-pub fn making_number(making: Making) -> u8
+pub fn making_number(making: Result<(), Refusal>) -> u8
     ensures answer { result ≡ making_number making }
 {
     match making {
-        Making::Done => 0,
-        Making::Refused(refusal) => base::number(refusal),
+        Ok(()) => 0,
+        Err(refusal) => base::number(refusal),
     }
 }
 
 // How many bytes a block out wrote.
-pub fn wrote(outcome: Outcome) -> usize
+pub fn wrote(outcome: Result<Option<usize>, Refusal>) -> usize
     ensures answer { result ≡ wrote_of outcome }
 {
     match outcome {
-        Outcome::Done => 0,
-        Outcome::Wrote(n) => n,
-        Outcome::Refused(_) => 0,
+        Ok(None) => 0,
+        Ok(Some(n)) => n,
+        Err(_) => 0,
     }
 }
 

@@ -13,7 +13,6 @@ ghost use Rattle.firmware.specs.Answers.{outcome_number, numbers_after, fronted,
 
 use crate::answers::{leaves_record, outcome_number, send_byte, wrote};
 use crossing::{card_of, groups_of, tell_link, tell_link_and_lock};
-use store::Lending;
 
 // A block in: 12, 15, 16, 17, 18, 19 or 20. Only this call may change the password. The data response
 // that follows it in SPI goes to `response`, and how many bytes that is to `sent`.
@@ -56,8 +55,8 @@ pub extern "C" fn mmc_parts_block_in(
     *sent = 0;
     let lending = store::lent_check(memory.len(), map, groups_of(*numbers) as usize);
     match lending {
-        Lending::Right => {}
-        Lending::Refused(refusal) => return base::number(refusal),
+        Ok(()) => {}
+        Err(refusal) => return base::number(refusal),
     }
     let card = card_of(*numbers, *cid, *csd, *password);
     let stepped = card_blocks::taken_in(card, block, memory, map);
@@ -112,8 +111,8 @@ pub extern "C" fn mmc_parts_block_out(
     *written = 0;
     let lending = store::lent_check(memory.len(), map, groups_of(*numbers) as usize);
     match lending {
-        Lending::Right => {}
-        Lending::Refused(refusal) => return base::number(refusal),
+        Ok(()) => {}
+        Err(refusal) => return base::number(refusal),
     }
     let card = card_of(*numbers, *cid, *csd, *password);
     let stepped = card_blocks::given_out(card, memory, map, out);

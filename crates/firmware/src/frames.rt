@@ -13,12 +13,11 @@ ghost use Rattle.store.specs.Lent.{lent_of, seen};
 ghost use Rattle.firmware.specs.Answers.{outcome_number, met_at, byte_sent, frame_numbers, won_by, selected_by, fronted};
 
 use crate::answers::send_byte;
-use base::{Refusal, Written};
+use base::Refusal;
 use card_record::{Registers, Sent};
 use command::Met;
 use crossing::{groups_of, link_of, locked_of, mode_of, registers_of, tell_errors, tell_link};
-use store::Lending;
-use wire::Framing;
+use wire::Fields;
 
 // What a command meets beside the link, at the card that the numbers stand for.
 fn met_of(numbers: [u32; 13], wins: bool) -> Met
@@ -61,8 +60,8 @@ fn send(registers: Registers, sent: Sent, out: &mut [u8; 17]) -> usize
 {
     let written = card_record::write_sent(registers, sent, out);
     match written {
-        Written::Bytes(n) => n,
-        Written::Refused(_) => 0,
+        Ok(n) => n,
+        Err(_) => 0,
     }
 }
 
@@ -166,16 +165,18 @@ pub extern "C" fn mmc_parts_frame(
     *sent = 0;
     let lending = store::lent_check(memory.len(), map, groups_of(*numbers) as usize);
     match lending {
-        Lending::Right => {}
-        Lending::Refused(refusal) => return base::number(refusal),
+        Ok(()) => {}
+        Err(refusal) => return base::number(refusal),
     }
     let framing = wire::unframe(frame);
     match framing {
-        Framing::Framed {
-            index,
-            argument,
-            crc_right,
-        } => {
+        Ok(
+            Fields {
+                index,
+                argument,
+                crc_right,
+            },
+        ) => {
             if !spi::crc_passes(mode_of(*numbers), index, crc_right) {
                 *sent = tell_damaged(numbers, selected != 0, answer);
                 return base::number(Refusal::FrameCrc);
@@ -194,6 +195,6 @@ pub extern "C" fn mmc_parts_frame(
             );
             0
         }
-        Framing::Unframed(refusal) => base::number(refusal),
+        Err(refusal) => base::number(refusal),
     }
 }

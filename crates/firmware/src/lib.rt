@@ -20,11 +20,11 @@ ghost use Rattle.wire.specs.Blocks.{block_of, block_written, checked_of};
 ghost use Rattle.wire.specs.Frames.{command_frame, indexed, frame_of};
 ghost use Rattle.firmware.specs.Numbers.{frame_number, index_read, argument_read, written_number, checked_number};
 
-use base::Written;
+use base::Refusal;
 pub use blocks::{mmc_parts_block_in, mmc_parts_block_out};
 pub use calls::{mmc_parts_make, mmc_parts_power_on, mmc_parts_work_done};
 pub use frames::mmc_parts_frame;
-use wire::{Checked, Frame};
+use wire::Command;
 
 // The CRC7 of any bytes.
 #[unsafe(no_mangle)]
@@ -54,25 +54,27 @@ pub extern "C" fn mmc_read_frame(frame: &[u8], index: &mut u8, argument: &mut u3
 {
     let read = wire::read_frame(frame);
     match read {
-        Frame::Command {
-            index: i,
-            argument: a,
-        } => {
+        Ok(
+            Command {
+                index: i,
+                argument: a,
+            },
+        ) => {
             *index = i;
             *argument = a;
             0
         }
-        Frame::Refused(refusal) => base::number(refusal),
+        Err(refusal) => base::number(refusal),
     }
 }
 
 // The number of what was written.
-fn number_written(written: Written) -> u8
+fn number_written(written: Result<usize, Refusal>) -> u8
     ensures { result ≡ written_number written }
 {
     match written {
-        Written::Bytes(_) => 0,
-        Written::Refused(refusal) => base::number(refusal),
+        Ok(_) => 0,
+        Err(refusal) => base::number(refusal),
     }
 }
 
@@ -109,7 +111,7 @@ pub extern "C" fn mmc_check_block(block: &[u8]) -> u8
 {
     let checked = wire::check_block(block);
     match checked {
-        Checked::Payload(_) => 0,
-        Checked::Refused(refusal) => base::number(refusal),
+        Ok(_) => 0,
+        Err(refusal) => base::number(refusal),
     }
 }

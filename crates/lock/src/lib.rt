@@ -1,7 +1,7 @@
 // The password of a card with its lock flag, and the requests of CMD42 on them (document 01,
 // "Reading, writing, erasing, locking"). Any record may come in: a length over 16 reads as 16.
 //
-// Offers: `Lock`, `no_password`, `powered`; `Making`, `Made`, `make`; `Operation`, `Answer`,
+// Offers: `Lock`, `no_password`, `powered`; `make`; `Operation`, `Answer`,
 // `Requested`, `request`.
 #![tactic(auto)]
 
@@ -17,20 +17,6 @@ pub struct Lock {
     pub password: [u8; 16],
     pub length: u8,
     pub locked: bool,
-}
-
-// Whether a password was taken, or the refusal.
-#[derive(Clone, Copy)]
-pub enum Making {
-    Done,
-    Refused(Refusal),
-}
-
-// A record made from a password: without one if it was refused.
-#[derive(Clone, Copy)]
-pub struct Made {
-    pub lock: Lock,
-    pub making: Making,
 }
 
 // What a lock request asks for.
@@ -110,19 +96,13 @@ pub fn powered(lock: Lock) -> Lock
 }
 
 // The record of a card made with a password: 11.
-pub fn make(password: &[u8]) -> Made
+pub fn make(password: &[u8]) -> Result<Lock, Refusal>
     ensures answer { result ≡ lock_made password.now }
 {
     if 16 < password.len() {
-        return Made {
-            lock: no_password(),
-            making: Making::Refused(Refusal::PasswordLength),
-        };
+        return Err(Refusal::PasswordLength);
     }
-    Made {
-        lock: powered(holding(password, false)),
-        making: Making::Done,
-    }
+    Ok(powered(holding(password, false)))
 }
 
 // Whether the block has byte 1 and as many bytes behind it as that says.

@@ -14,8 +14,6 @@ use borrow.Author.Tests.{le-leb}
 use lib.ListN.{length, take, drop, get_or, set, replicate}
 use lib.Seq.{take_all}
 use Rattle.base.specs.Output.{laid}
-use Rattle.base.specs.declared.Written.{Written}
-use Rattle.base.specs.declared.Written.TheVariants.{Bytes}
 use Rattle.bus.specs.Bus.{added_to, bus_frame}
 use Rattle.bus.specs.declared.Added.{Added}
 use Rattle.bus.specs.declared.Bus.{Bus}
@@ -26,6 +24,8 @@ use Rattle.card_record.specs.declared.Card.{Card}
 use Rattle.store.specs.Memory.{contents, part_read}
 use Rattle.wire.specs.Frames.{command_frame, sealed, indexed}
 use Rattle.measured_bus.specs.Rounds.{cid_at, ready_card, bus_of, cmd2, cmd3, heard, after_rounds, answered_in}
+use Rattle.std.specs.Prelude.{Result, Ok}
+use Rattle.base.specs.declared.Refusal.{Refusal}
 
 pub cid_read : (cids : List ℕ) (place : ℕ) → length cids ≡ 480 → part_read (contents cids) (place % 30 * 16) (replicate 16 0) ≡ cid_at cids place
 unfolding part_read cid_at
@@ -36,14 +36,14 @@ six : (index argument : ℕ) → length (command_frame index argument) ≡ 6
 unfolding command_frame
 six index argument = length_octets 6 (sealed (0 ∷ 1 ∷ bits_of 6 index ++ bits_of 32 argument))
 
-pub written : (index argument : ℕ) (answer : Written) (last : List ℕ) → index ≤ 63
+pub written : (index argument : ℕ) (answer : Result ℕ Refusal) (last : List ℕ) → index ≤ 63
     → answer ≡ indexed index (command_frame index argument) (replicate 6 0)
     → last ≡ laid answer (command_frame index argument) (replicate 6 0)
     → last ≡ command_frame index argument
 written index argument answer last small e o =
     let frame = command_frame index argument in
-    let done : answer ≡ Bytes 6 = e ∙ simp (le-leb index 63 small, six) in
-    o ∙ ap (λ (r : Written). laid r frame (replicate 6 0)) done ∙ simp (six, append-nil)
+    let done : answer ≡ Ok 6 = e ∙ simp (le-leb index 63 small, six) in
+    o ∙ ap (λ (r : Result ℕ Refusal). laid r frame (replicate 6 0)) done ∙ simp (six, append-nil)
 
 pub bus_turn : (cids : List ℕ) (bus : Bus) (place : ℕ) (cid : List ℕ) (card : Card) (added : Added)
     → bus ≡ bus_of cids place → cid ≡ cid_at cids place → card ≡ ready_card cid → added ≡ added_to bus card → added.bus ≡ bus_of cids (place + 1)

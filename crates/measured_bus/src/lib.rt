@@ -8,7 +8,8 @@
 ghost use Rattle.std.specs.Prelude.{◌≡◌, ◌≤◌};
 ghost use Rattle.measured_bus.specs.Rounds.{cid_at, ready_card, bus_of, cmd2, cmd3, heard, after_rounds, answered_in, played_on, addresses_of};
 
-use bus::{Bus, Shown};
+use base::Refusal;
+use bus::Bus;
 use card_record::{Card, Link, Registers};
 use states::State;
 
@@ -69,7 +70,7 @@ fn cmd2() -> [u8; 6]
     ensures { result ≡ cmd2 }
 {
     let mut frame = [0u8; 6];
-    wire::write_command(2, 0, &mut frame);
+    let _ = wire::write_command(2, 0, &mut frame);
     frame
 }
 
@@ -79,19 +80,19 @@ fn cmd3(round: usize) -> [u8; 6]
 {
     let argument = (round % 65536) as u32 * 65536;
     let mut frame = [0u8; 6];
-    wire::write_command(3, argument, &mut frame);
+    let _ = wire::write_command(3, argument, &mut frame);
     frame
 }
 
 // How many answers the line shows: one or none.
-fn heard(shown: Shown) -> usize
+fn heard(shown: Result<Option<usize>, Refusal>) -> usize
     ensures answer { result ≡ heard shown }
     ensures few { result ≤ 1 }
 {
     match shown {
-        Shown::Line(_) => 1,
-        Shown::Silent => 0,
-        Shown::Refused(_) => 0,
+        Ok(Some(_)) => 1,
+        Ok(None) => 0,
+        Err(_) => 0,
     }
 }
 

@@ -2,7 +2,7 @@
 // name, those that are pending, and the 32-bit word. No call has a `requires`: of any 32 bits only
 // the named error bits are ever shown.
 //
-// Offers: `ErrorBit`, `Fault`; `Errors`, `none`, `set`, `clear_command_bits`, `pending`; `word`.
+// Offers: `ErrorBit`; `Errors`, `none`, `set`, `clear_command_bits`, `pending`; `word`.
 #![tactic(auto)]
 
 ghost use Rattle.std.specs.Prelude.{◌≡◌, ◌^◌};
@@ -25,13 +25,6 @@ pub enum ErrorBit {
     IllegalCommand,
     WpEraseSkip,
     EraseReset,
-}
-
-// What a check of a command finds: nothing wrong, or the error bit to set.
-#[derive(Clone, Copy)]
-pub enum Fault {
-    None,
-    Bit(ErrorBit),
 }
 
 // The error bits that wait to be reported, each in its place of the status.

@@ -2,7 +2,7 @@
 // to them goes through these calls. Sectors and protection groups go by their numbers; what does
 // not lie in the lent bytes is left alone, so no call has a `requires`.
 //
-// Offers: `PROTECTION_GROUP`; `size_allowed`, `map_right`; `Lending`, `lent_check`; `read_part`,
+// Offers: `PROTECTION_GROUP`; `size_allowed`, `map_right`; `lent_check`; `read_part`,
 // `write_sector`, `erase`, `fill_all`; `protected`, `protect`, `protection_bits`, `clear_map`.
 #![tactic(auto)]
 
@@ -61,27 +61,20 @@ pub fn map_right(map: &[u8], groups: usize) -> bool
     entries_right(map)
 }
 
-// What is lent is the card's, or is not.
-#[derive(Clone, Copy)]
-pub enum Lending {
-    Right,
-    Refused(Refusal),
-}
-
 // Whether a memory of this size and a map are those of a card of so many groups: 12.
-pub fn lent_check(memory: usize, map: &[u8], groups: usize) -> Lending
+pub fn lent_check(memory: usize, map: &[u8], groups: usize) -> Result<(), Refusal>
     ensures answer { result ≡ lending_of (seen_of memory map.now) groups }
 {
     if memory % PROTECTION_GROUP != 0 {
-        return Lending::Refused(Refusal::Lent);
+        return Err(Refusal::Lent);
     }
     if memory / PROTECTION_GROUP != groups {
-        return Lending::Refused(Refusal::Lent);
+        return Err(Refusal::Lent);
     }
     if !map_right(map, groups) {
-        return Lending::Refused(Refusal::Lent);
+        return Err(Refusal::Lent);
     }
-    Lending::Right
+    Ok(())
 }
 
 // Whether a sector is protected: the whole card is, or the map says so of the sector's group.

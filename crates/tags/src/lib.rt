@@ -11,7 +11,7 @@ ghost use Rattle.tags.specs.Tagging.{tags_of, no_tags, any_of, is_complete, plac
 ghost use Rattle.tags.specs.Tags.{within, tagged_of};
 
 use base::{ERASE_GROUP, SECTOR};
-use status::{ErrorBit, Fault};
+use status::ErrorBit;
 
 #[derive(Clone, Copy)]
 pub enum Kind {
@@ -32,11 +32,11 @@ pub struct Tags {
     pub range: Range,
 }
 
-// What a tag command leaves: the tags, and the error that it answers.
+// What a tag command leaves: the tags, and the error bit that it sets, if any.
 #[derive(Clone, Copy)]
 pub struct Tagging {
     pub tags: Tags,
-    pub error: Fault,
+    pub error: Option<ErrorBit>,
 }
 
 fn within(n: u32, first: u32, last: u32) -> bool
@@ -117,7 +117,7 @@ fn fail(bit: ErrorBit) -> Tagging
 {
     Tagging {
         tags: no_tags(),
-        error: Fault::Bit(bit),
+        error: Some(bit),
     }
 }
 
@@ -131,7 +131,7 @@ pub fn tag_start(kind: Kind, address: u32, size: u32) -> Tagging
     let first = place_in(kind, address);
     Tagging {
         tags: new_tags(Range::Start(kind, first)),
-        error: Fault::None,
+        error: None,
     }
 }
 
@@ -202,6 +202,6 @@ pub fn tag_end(tags: Tags, kind: Kind, address: u32, size: u32) -> Tagging
     }
     Tagging {
         tags: new_tags(Range::Full(kind, first, last)),
-        error: Fault::None,
+        error: None,
     }
 }

@@ -12,7 +12,7 @@ ghost use Rattle.std.specs.Prelude.{◌≡◌, ◌<◌, ◌≤◌, drop};
 ghost use Rattle.base.specs.Output.{fits, laid};
 ghost use Rattle.text.specs.Text.{digit_of, hex_of, decimal_of};
 
-use base::{Refusal, Written, copy};
+use base::{Refusal, copy};
 
 // The hex digit of a number below 16.
 fn digit(d: u8) -> u8
@@ -27,14 +27,14 @@ fn digit(d: u8) -> u8
 
 // Two upper-case hex digits for each byte. The test divides, since twice a length may be past the
 // largest number.
-pub fn hex(bytes: &[u8], out: &mut [u8]) -> Written
+pub fn hex(bytes: &[u8], out: &mut [u8]) -> Result<usize, Refusal>
     ensures answer { result ≡ fits (hex_of bytes.now) out.old }
     ensures output { out.new ≡ laid result (hex_of bytes.now) out.old }
 {
     if out.len() / 2 < bytes.len() {
-        return Written::Refused(Refusal::OutputShort);
+        return Err(Refusal::OutputShort);
     }
-    Written::Bytes(lines::hex(bytes, out, 0))
+    Ok(lines::hex(bytes, out, 0))
 }
 
 // Decimal digits at the end of a text that has room for those of any number, from a place on.
@@ -63,19 +63,19 @@ fn spell(n: u64) -> Spelt
 }
 
 // Bytes copied to the front of `out`.
-fn put(bytes: &[u8], out: &mut [u8]) -> Written
+fn put(bytes: &[u8], out: &mut [u8]) -> Result<usize, Refusal>
     ensures answer { result ≡ fits bytes.now out.old }
     ensures output { out.new ≡ laid result bytes.now out.old }
 {
     if out.len() < bytes.len() {
-        return Written::Refused(Refusal::OutputShort);
+        return Err(Refusal::OutputShort);
     }
     copy(bytes, out, 0);
-    Written::Bytes(bytes.len())
+    Ok(bytes.len())
 }
 
 // The decimal digits of `n`, with no leading zeros.
-pub fn decimal(n: u64, out: &mut [u8]) -> Written
+pub fn decimal(n: u64, out: &mut [u8]) -> Result<usize, Refusal>
     ensures answer { result ≡ fits (decimal_of n) out.old }
     ensures output { out.new ≡ laid result (decimal_of n) out.old }
 {

@@ -1,9 +1,9 @@
 // What came of a request, printed.
 //
 // Offers: `say`, `say_hex`, `say_half`; `say_frame`, `say_framing`, `say_checked`, `say_written`.
-use base::{Refusal, Written};
+use base::Refusal;
 use text::parts::part;
-use wire::{Checked, Frame, Framing};
+use wire::{Command, Fields};
 
 // A text, written to standard output. Whether it was is asked at a line's end, where it is said.
 pub fn say(rt: &impl Print, text: &[u8]) {
@@ -11,8 +11,8 @@ pub fn say(rt: &impl Print, text: &[u8]) {
 }
 
 // The front of a text, as long as the call that wrote it says.
-fn say_text(rt: &impl Print, answer: Written, text: &[u8]) {
-    if let Written::Bytes(n) = answer {
+fn say_text(rt: &impl Print, answer: Result<usize, Refusal>, text: &[u8]) {
+    if let Ok(n) = answer {
         say(rt, part(text, 0, n));
     }
 }
@@ -64,20 +64,22 @@ fn say_command(rt: &impl Print, index: u8, argument: u32) {
     say_half(rt, (argument % 65536) as u16);
 }
 
-pub fn say_frame(rt: &impl Print, frame: Frame) {
+pub fn say_frame(rt: &impl Print, frame: Result<Command, Refusal>) {
     match frame {
-        Frame::Command { index, argument } => say_command(rt, index, argument),
-        Frame::Refused(refusal) => say_refused(rt, refusal),
+        Ok(Command { index, argument }) => say_command(rt, index, argument),
+        Err(refusal) => say_refused(rt, refusal),
     }
 }
 
-pub fn say_framing(rt: &impl Print, framing: Framing) {
+pub fn say_framing(rt: &impl Print, framing: Result<Fields, Refusal>) {
     match framing {
-        Framing::Framed {
-            index,
-            argument,
-            crc_right,
-        } => {
+        Ok(
+            Fields {
+                index,
+                argument,
+                crc_right,
+            },
+        ) => {
             say_command(rt, index, argument);
             if crc_right {
                 say(rt, b" crc right");
@@ -85,29 +87,29 @@ pub fn say_framing(rt: &impl Print, framing: Framing) {
                 say(rt, b" crc wrong");
             }
         }
-        Framing::Unframed(refusal) => say_refused(rt, refusal),
+        Err(refusal) => say_refused(rt, refusal),
     }
 }
 
-pub fn say_checked(rt: &impl Print, checked: Checked) {
+pub fn say_checked(rt: &impl Print, checked: Result<usize, Refusal>) {
     match checked {
-        Checked::Payload(n) => {
+        Ok(n) => {
             say(rt, b"payload of ");
             say_decimal(rt, n as u64);
             say(rt, b" bytes");
         }
-        Checked::Refused(refusal) => say_refused(rt, refusal),
+        Err(refusal) => say_refused(rt, refusal),
     }
 }
 
 // What a call that writes answered, and the output that it was lent.
-pub fn say_written(rt: &impl Print, answer: Written, out: &[u8]) {
+pub fn say_written(rt: &impl Print, answer: Result<usize, Refusal>, out: &[u8]) {
     match answer {
-        Written::Bytes(n) => {
+        Ok(n) => {
             say_decimal(rt, n as u64);
             say(rt, b" bytes ");
         }
-        Written::Refused(refusal) => {
+        Err(refusal) => {
             say_refused(rt, refusal);
             say(rt, b" ");
         }

@@ -2,7 +2,7 @@
 // the responses R1, R2 and R3 written from what they mean, the last byte of a register, and data
 // blocks written and checked. No call has a `requires`: what is wrong is refused by its number.
 //
-// Offers: `unframe`, `read_frame`, `write_command`; `R1`, `R2`, `R3`, `write_r1`, `write_r2`,
+// Offers: `Fields`, `unframe`; `Command`, `read_frame`, `write_command`; `R1`, `R2`, `R3`, `write_r1`, `write_r2`,
 // `write_r3`; `last_byte`, `register_right`; `LONGEST_BLOCK`, `write_block`, `check_block`.
 #![tactic(auto)]
 
@@ -13,24 +13,21 @@ ghost use Rattle.wire.specs.Blocks.{block_of, block_written, checked_of};
 ghost use Rattle.wire.specs.Frames.{sealed, command_frame, indexed, framing_of, frame_of};
 ghost use Rattle.wire.specs.Responses.{r1_frame, r2_frame, r3_frame, last_byte, register_right};
 
-use base::{Refusal, Written, copy};
+use base::{Refusal, copy};
 
-// A frame whose length and framing bits are right, with the outcome of its CRC7; or the refusal.
+// The fields of a frame whose length and framing bits are right, and the outcome of its CRC7.
 #[derive(Clone, Copy)]
-pub enum Framing {
-    Framed {
-        index: u8,
-        argument: u32,
-        crc_right: bool,
-    },
-    Unframed(Refusal),
+pub struct Fields {
+    pub index: u8,
+    pub argument: u32,
+    pub crc_right: bool,
 }
 
-// A command, or the refusal.
+// What a frame with a right CRC7 commands.
 #[derive(Clone, Copy)]
-pub enum Frame {
-    Command { index: u8, argument: u32 },
-    Refused(Refusal),
+pub struct Command {
+    pub index: u8,
+    pub argument: u32,
 }
 
 // What each response means.
@@ -56,60 +53,46 @@ pub const LONGEST_BLOCK: usize = 2048;
 // With its CRC16 behind it.
 const LONGEST_CHECKED: usize = LONGEST_BLOCK + 2;
 
-// How many bytes of payload a checked block carries, or the refusal.
-#[derive(Clone, Copy)]
-pub enum Checked {
-    Payload(usize),
-    Refused(Refusal),
-}
-
 // A frame's length and framing bits tested (1, 2), each bit for itself, with its CRC7 looked at and
 // not yet judged: whoever takes commands with the CRC off starts here.
-pub fn unframe(frame: &[u8]) -> Framing
+pub fn unframe(frame: &[u8]) -> Result<Fields, Refusal>
     ensures answer { result ≡ framing_of frame.now }
 {
     if frame.len() != 6 {
-        return Framing::Unframed(Refusal::FrameLength);
+        return Err(Refusal::FrameLength);
     }
     let first = frame[0];
     let last = frame[5];
     if first / 128 != 0 {
-        return Framing::Unframed(Refusal::FrameBits);
+        return Err(Refusal::FrameBits);
     }
     if first / 64 % 2 != 1 {
-        return Framing::Unframed(Refusal::FrameBits);
+        return Err(Refusal::FrameBits);
     }
     if last % 2 != 1 {
-        return Framing::Unframed(Refusal::FrameBits);
+        return Err(Refusal::FrameBits);
     }
     let argument = crc::word(frame[1], frame[2], frame[3], frame[4]);
     let sum = crc::crc7_frame(first, argument);
-    Framing::Framed {
+    Ok(Fields {
         index: first % 64,
         argument,
         crc_right: last / 2 == sum,
-    }
+    })
 }
 
 // A command frame read: 1, 2, 3.
-pub fn read_frame(frame: &[u8]) -> Frame
+pub fn read_frame(frame: &[u8]) -> Result<Command, Refusal>
     ensures answer { result ≡ frame_of frame.now }
 {
-    let framing = unframe(frame);
-    match framing {
-        Framing::Framed {
-            index,
-            argument,
-            crc_right,
-        } => {
-            if crc_right {
-                Frame::Command { index, argument }
-            } else {
-                Frame::Refused(Refusal::FrameCrc)
-            }
-        }
-        Framing::Unframed(refusal) => Frame::Refused(refusal),
+    let fields = unframe(frame)?;
+    if !fields.crc_right {
+        return Err(Refusal::FrameCrc);
     }
+    Ok(Command {
+        index: fields.index,
+        argument: fields.argument,
+    })
 }
 
 // The byte that closes a CID or a CSD, and any bytes so: the CRC7 of those before it, and a 1.
@@ -143,56 +126,56 @@ fn put48(first: u8, word: u32, out: &mut [u8])
 }
 
 // A command frame written: 4, 6.
-pub fn write_command(index: u8, argument: u32, out: &mut [u8]) -> Written
+pub fn write_command(index: u8, argument: u32, out: &mut [u8]) -> Result<usize, Refusal>
     ensures answer { result ≡ indexed index (command_frame index argument) out.old }
     ensures output { out.new ≡ laid result (command_frame index argument) out.old }
 {
     if 63 < index {
-        return Written::Refused(Refusal::Index);
+        return Err(Refusal::Index);
     }
     if out.len() < 6 {
-        return Written::Refused(Refusal::OutputShort);
+        return Err(Refusal::OutputShort);
     }
     put48(64 + index, argument, out);
-    Written::Bytes(6)
+    Ok(6)
 }
 
 // R1 written: 4, 6.
-pub fn write_r1(r1: R1, out: &mut [u8]) -> Written
+pub fn write_r1(r1: R1, out: &mut [u8]) -> Result<usize, Refusal>
     ensures answer { result ≡ indexed r1.index (r1_frame r1) out.old }
     ensures output { out.new ≡ laid result (r1_frame r1) out.old }
 {
     if 63 < r1.index {
-        return Written::Refused(Refusal::Index);
+        return Err(Refusal::Index);
     }
     if out.len() < 6 {
-        return Written::Refused(Refusal::OutputShort);
+        return Err(Refusal::OutputShort);
     }
     put48(r1.index, r1.status, out);
-    Written::Bytes(6)
+    Ok(6)
 }
 
 // R2 written: 6.
-pub fn write_r2(r2: R2, out: &mut [u8]) -> Written
+pub fn write_r2(r2: R2, out: &mut [u8]) -> Result<usize, Refusal>
     ensures answer { result ≡ fits (r2_frame r2) out.old }
     ensures output { out.new ≡ laid result (r2_frame r2) out.old }
 {
     if out.len() < 17 {
-        return Written::Refused(Refusal::OutputShort);
+        return Err(Refusal::OutputShort);
     }
     let register = r2.register;
     out[0] = 0x3F;
     copy(&register, out, 1);
-    Written::Bytes(17)
+    Ok(17)
 }
 
 // R3 written: 6.
-pub fn write_r3(r3: R3, out: &mut [u8]) -> Written
+pub fn write_r3(r3: R3, out: &mut [u8]) -> Result<usize, Refusal>
     ensures answer { result ≡ fits (r3_frame r3) out.old }
     ensures output { out.new ≡ laid result (r3_frame r3) out.old }
 {
     if out.len() < 6 {
-        return Written::Refused(Refusal::OutputShort);
+        return Err(Refusal::OutputShort);
     }
     let ocr = r3.ocr;
     out[0] = 0x3F;
@@ -201,29 +184,29 @@ pub fn write_r3(r3: R3, out: &mut [u8]) -> Written
     out[3] = (ocr / 256 % 256) as u8;
     out[4] = (ocr % 256) as u8;
     out[5] = 0xFF;
-    Written::Bytes(6)
+    Ok(6)
 }
 
 // A block written: 5, 6.
-pub fn write_block(payload: &[u8], out: &mut [u8]) -> Written
+pub fn write_block(payload: &[u8], out: &mut [u8]) -> Result<usize, Refusal>
     ensures answer { result ≡ block_written payload.now out.old }
     ensures output { out.new ≡ laid result (block_of payload.now) out.old }
 {
     let n = payload.len();
     if n < 1 {
-        return Written::Refused(Refusal::PayloadLength);
+        return Err(Refusal::PayloadLength);
     }
     if LONGEST_BLOCK < n {
-        return Written::Refused(Refusal::PayloadLength);
+        return Err(Refusal::PayloadLength);
     }
     if out.len() < n + 2 {
-        return Written::Refused(Refusal::OutputShort);
+        return Err(Refusal::OutputShort);
     }
     copy(payload, out, 0);
     let sum = crc::crc16(payload);
     out[n] = (sum / 256) as u8;
     out[n + 1] = (sum % 256) as u8;
-    Written::Bytes(n + 2)
+    Ok(n + 2)
 }
 
 // The 16 bits of two bytes, high byte first.
@@ -233,23 +216,23 @@ fn half_word(a: u8, b: u8) -> u16
     (a as u16) * 256 + (b as u16)
 }
 
-// A block checked: 5, 17.
-pub fn check_block(block: &[u8]) -> Checked
+// A block checked: 5, 17. A good one is answered by how many bytes of payload it carries.
+pub fn check_block(block: &[u8]) -> Result<usize, Refusal>
     ensures answer { result ≡ checked_of block.now }
 {
     let n = block.len();
     if n < 3 {
-        return Checked::Refused(Refusal::PayloadLength);
+        return Err(Refusal::PayloadLength);
     }
     if LONGEST_CHECKED < n {
-        return Checked::Refused(Refusal::PayloadLength);
+        return Err(Refusal::PayloadLength);
     }
     let m = n - 2;
     let told = half_word(block[m], block[n - 1]);
     let sum = crc::crc16(&block[0..m]);
     if told == sum {
-        Checked::Payload(m)
+        Ok(m)
     } else {
-        Checked::Refused(Refusal::BlockCrc)
+        Err(Refusal::BlockCrc)
     }
 }

@@ -20,6 +20,6 @@ pub returns-else-not-on_bus : goal.returns-else-not-on_bus
 unfolding bus_asked
 returns-else-not-on_bus c = search rules
 
-pub returns-in-Unframed : goal.returns-in-Unframed
+pub returns-in-Err : goal.returns-in-Err
 unfolding bus_asked
-returns-in-Unframed c = search rules
+returns-in-Err c = search rules

@@ -12,6 +12,6 @@ pub returns-in-None : goal.returns-in-None
 unfolding acted_of after_checks
 returns-in-None c = search rules
 
-pub returns-in-Bit : goal.returns-in-Bit
+pub returns-in-Some : goal.returns-in-Some
 unfolding acted_of after_checks
-returns-in-Bit c = search rules
+returns-in-Some c = search rules
