@@ -34,7 +34,7 @@ pub struct Made {
 }
 
 // What a lock request asks for.
-#[derive(Clone, Copy)]
+#[derive(Clone, Copy, PartialEq, Eq)]
 pub enum Operation {
     Unlock,
     Set,
@@ -46,7 +46,7 @@ pub enum Operation {
 }
 
 // What became of a request. After `Erased` the caller fills the memory and clears the map.
-#[derive(Clone, Copy)]
+#[derive(Clone, Copy, PartialEq, Eq)]
 pub enum Answer {
     Granted,
     Erased,

@@ -11,7 +11,7 @@ ghost use Rattle.playing.specs.Playing.{kept_of};
 
 // How a script goes on behind a record: with the next one; not at all; once the record, of which not
 // all bytes are there yet, is whole; or once there is room for its line. The last two did nothing.
-#[derive(Clone, Copy)]
+#[derive(Clone, Copy, PartialEq, Eq)]
 pub enum Then {
     Goes,
     Stops,
