@@ -87,29 +87,21 @@ pub fn number(r: Refusal) -> u8
 pub fn least(a: usize, b: usize) -> usize
     ensures answer { result ≡ min a b }
 {
-    if a < b { a } else { b }
+    a.min(b)
 }
 
 // Every byte made one value.
 pub fn fill(bytes: &mut [u8], value: u8)
     ensures bytes { bytes.new ≡ replicate (length bytes.old) value }
 {
-    let mut i: usize = 0;
-    while i < bytes.len() {
-        bytes[i] = value;
-        i += 1;
-    }
+    bytes.fill(value);
 }
 
 // As many of the bytes as there is room for, written over others from a place on.
 pub fn copy(bytes: &[u8], over: &mut [u8], at: usize)
     ensures over { over.new ≡ copied bytes.now over.old at }
 {
-    let room = over.len() - least(at, over.len());
-    let n = least(bytes.len(), room);
-    let mut i: usize = 0;
-    while i < n {
-        over[at + i] = bytes[i];
-        i += 1;
-    }
+    let from = at.min(over.len());
+    let n = bytes.len().min(over.len() - from);
+    over[from..from + n].copy_from_slice(&bytes[..n]);
 }
