@@ -8,20 +8,15 @@ ghost use Rattle.text.specs.Lines.{number_text, hex_text, end_text, head_text, w
 ghost use Rattle.text.specs.Text.{hex_of, decimal_of};
 ghost use Rattle.text.specs.Writing.{Put};
 
-use crate::{digit, spell};
-use base::{Refusal, copy, least};
+use crate::digit;
+use base::{Refusal, copy};
+use itoa::Buffer;
 
 // The place so many bytes behind another, within a length.
 fn behind(at: usize, n: usize, length: usize) -> usize
     ensures { result ≡ min (at + n) length }
 {
-    if length <= at {
-        return length;
-    }
-    if length - at <= n {
-        return length;
-    }
-    at + n
+    at.saturating_add(n).min(length)
 }
 
 // Each of these writes a text from a place on and answers the place behind it.
@@ -36,22 +31,16 @@ pub fn put(bytes: &[u8], out: &mut [u8], at: usize) -> usize
 fn decimal(n: u64, out: &mut [u8], at: usize) -> usize
     ensures { Put out.old out.new at result (decimal_of n) }
 {
-    let spelt = spell(n);
-    let from = spelt.from;
-    let text = spelt.text;
-    put(&text[from..20], out, at)
+    put(Buffer::new().format(n).as_bytes(), out, at)
 }
 
 pub fn hex(bytes: &[u8], out: &mut [u8], at: usize) -> usize
     ensures { Put out.old out.new at result (hex_of bytes.now) }
 {
-    let mut place = least(at, out.len());
-    let mut i: usize = 0;
-    while i < bytes.len() {
-        let b = bytes[i];
+    let mut place = at.min(out.len());
+    for &b in bytes {
         let pair = [digit(b / 16), digit(b % 16)];
         place = put(&pair, out, place);
-        i += 1;
     }
     place
 }
@@ -74,7 +63,7 @@ pub fn hexed(bytes: &[u8], out: &mut [u8], at: usize) -> usize
 pub fn ending(bytes: &[u8], out: &mut [u8], at: usize) -> usize
     ensures { Put out.old out.new at result (end_text bytes.now) }
 {
-    if bytes.len() == 0 {
+    if bytes.is_empty() {
         return put(b"\n", out, at);
     }
     let a = hexed(bytes, out, at);
