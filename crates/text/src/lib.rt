@@ -48,6 +48,7 @@ fn put(bytes: &[u8], out: &mut [u8]) -> Written
 }
 
 // The decimal digits of `n`, with no leading zeros.
+#[tactic(auto, using(crate::proofs::Digits::written))]
 pub fn decimal(n: u64, out: &mut [u8]) -> Written
     ensures answer { result ≡ fits (decimal_of n) out.old }
     ensures output { out.new ≡ laid result (decimal_of n) out.old }

@@ -28,6 +28,7 @@ pub fn put(bytes: &[u8], out: &mut [u8], at: usize) -> usize
     behind(at, bytes.len(), out.len())
 }
 
+#[tactic(auto, using(crate::proofs::Digits::written))]
 fn decimal(n: u64, out: &mut [u8], at: usize) -> usize
     ensures { Put out.old out.new at result (decimal_of n) }
 {
@@ -60,6 +61,7 @@ pub fn hexed(bytes: &[u8], out: &mut [u8], at: usize) -> usize
 }
 
 // The end of a line: no space goes before bytes that are none.
+#[tactic(auto, using(crate::proofs::Writing::put_both), unfolding(crate::specs::Lines::end_text))]
 pub fn ending(bytes: &[u8], out: &mut [u8], at: usize) -> usize
     ensures { Put out.old out.new at result (end_text bytes.now) }
 {
@@ -87,6 +89,7 @@ pub fn say(count: u64, word: &[u8], bytes: &[u8], out: &mut [u8]) -> usize
     ending(bytes, out, a)
 }
 
+#[tactic(auto, using(crate::proofs::Writing::put_both), unfolding(crate::specs::Lines::plain_line))]
 pub fn plain(word: &[u8], out: &mut [u8]) -> usize
     ensures { Put out.old out.new 0 result (plain_line word.now) }
 {
