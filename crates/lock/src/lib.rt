@@ -60,6 +60,7 @@ pub struct Requested {
 }
 
 // A record without a password, unlocked.
+#[tactic(auto, unfolding(crate::specs::Passwords::holding))]
 pub fn no_password() -> Lock
     ensures answer { result ≡ no_password }
 {
@@ -139,7 +140,7 @@ fn matches(lock: Lock, payload: &[u8]) -> bool
 }
 
 // Whether the block carries the stored password, all of it and no more.
-#[tactic(auto, using(crate::proofs::Carried::presented_cut, crate::proofs::Carried::presented_none, crate::proofs::Carried::presented_other, crate::proofs::Carried::presented_is))]
+#[tactic(auto, using(crate::proofs::Carried::presented_tests))]
 fn presented(lock: Lock, payload: &[u8]) -> bool
     ensures { result ≡ presented lock payload.now }
 {
@@ -148,7 +149,7 @@ fn presented(lock: Lock, payload: &[u8]) -> bool
 }
 
 // Whether the block carries the stored password and behind it a new one of 1 to 16 bytes.
-#[tactic(auto, using(crate::proofs::Carried::settable_cut, crate::proofs::Carried::settable_few, crate::proofs::Carried::settable_many, crate::proofs::Carried::settable_is))]
+#[tactic(auto, using(crate::proofs::Carried::settable_tests))]
 fn settable(lock: Lock, payload: &[u8]) -> bool
     ensures { result ≡ settable lock payload.now }
 {
@@ -183,6 +184,7 @@ fn for_password(lock: Lock, payload: &[u8], next: Lock) -> Requested
 }
 
 // What set, and set and lock, share: the new password is taken with a flag.
+#[tactic(auto, using(crate::proofs::Carried::set_laws))]
 fn set_password(lock: Lock, payload: &[u8], locked: bool) -> Requested
     ensures { result ≡ granted_if (settable lock payload.now) lock (holding (new_of lock payload.now) locked) }
 {
