@@ -16,10 +16,11 @@ ghost use Rattle.crc.specs.Table.{Remainders};
 use remainders16::TABLE16;
 
 // The 32 bits of four bytes, highest first.
+#[tactic(auto, using(crate::proofs::Bits::word_spelt))]
 pub fn word(a: u8, b: u8, c: u8, d: u8) -> u32
     ensures answer { result ≡ spelt (bits (a ∷ b ∷ c ∷ d ∷ [])) }
 {
-    (a as u32) * 16777216 + (b as u32) * 65536 + (c as u32) * 256 + (d as u32)
+    u32::from_be_bytes([a, b, c, d])
 }
 
 // The CRC7 of a frame's 40 bits: its first byte, then its argument or status. x^7 + x^3 + 1 is
@@ -84,10 +85,8 @@ pub fn crc16(bytes: &[u8]) -> u16
 {
     let table = table16();
     let mut sum: u16 = 0;
-    let mut i = 0;
-    while i < bytes.len() {
-        sum = step16(&table, sum, bytes[i]);
-        i += 1;
+    for &b in bytes {
+        sum = step16(&table, sum, b);
     }
     sum
 }
