@@ -94,7 +94,9 @@ pub fn least(a: usize, b: usize) -> usize
 pub fn fill(bytes: &mut [u8], value: u8)
     ensures bytes { bytes.new ≡ replicate (length bytes.old) value }
 {
-    bytes.fill(value);
+    for byte in bytes {
+        *byte = value;
+    }
 }
 
 // As many of the bytes as there is room for, written over others from a place on.
