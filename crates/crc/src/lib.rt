@@ -46,19 +46,15 @@ pub fn crc7(bytes: &[u8]) -> u8
     ensures answer { result ≡ crc7 bytes.now }
 {
     let mut sum: u8 = 0;
-    let mut i = 0;
-    while i < bytes.len() {
-        let met = (sum * 2) ^ bytes[i];
-        let mut first: u8 = 0;
-        let mut four = met as u32;
-        let mut end = i + 1;
-        if 5 <= bytes.len() - i {
-            first = met;
-            four = word(bytes[i + 1], bytes[i + 2], bytes[i + 3], bytes[i + 4]);
-            end = i + 5;
-        }
+    let mut rest = bytes;
+    while let [byte, tail @ ..] = rest {
+        let met = (sum * 2) ^ byte;
+        let (first, four, behind) = match tail {
+            [b, c, d, e, behind @ ..] => (met, word(*b, *c, *d, *e), behind),
+            _ => (0, met as u32, tail),
+        };
         sum = crc7_frame(first, four);
-        i = end;
+        rest = behind;
     }
     sum
 }

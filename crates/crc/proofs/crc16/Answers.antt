@@ -15,4 +15,4 @@ loop-b-init c = search rules
 pub loop-b-preserved : goal.loop-b-preserved
 loop-b-preserved c =
     turn crc16 (λ x b. bit_xor (crc16 (bit_xor (x / 256) b ∷ [])) (x % 256 * 256)) crc16_step c.args.bytes.now c.loop-b.b-index c.loop-b.sum c.step16-sum.result
-      (search rules) c.loop-b.invariant c.step16-sum.ensures
+    (search rules) c.loop-b.invariant c.step16-sum.ensures
