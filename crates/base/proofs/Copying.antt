@@ -11,8 +11,8 @@ use native.Mathlib.Nat.{zero-add}
 use native.Mathlib.Omega.{arith}
 use borrow.Author.Tests.{leb-true, leb-false}
 use lib.Dec.{leb}
-use lib.ListN.{length, take, drop, get_or, set, length-append, length-take, length-drop, drop_of_length-le}
-use lib.Seq.{paste, paste-suc, take-length, take_all}
+use lib.ListN.{length, take, drop, length-append, length-take, length-drop, drop_of_length-le}
+use lib.Seq.{paste, take-length, take_all}
 use Rattle.base.proofs.Cases.{cases}
 use Rattle.base.specs.Output.{copied}
 

@@ -55,6 +55,7 @@ pub enum Written {
 }
 
 // The number that document 01 gives a refusal: the only place where the code turns one into it.
+// No `From`: docs/PROMISES.md names `number`, and the edit number_shared an arm of it.
 pub fn number(r: Refusal) -> u8
     ensures answer { result ≡ number_of r }
 {

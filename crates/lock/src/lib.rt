@@ -12,6 +12,7 @@ ghost use Rattle.lock.specs.Requests.{asked_by, long_enough, new_of, settable, p
 use base::{Refusal, copy};
 
 // The password is the first `length` bytes; a length of 0 means none.
+// Bytes and a length, no slice: `crossing::card_of` and the C calls have them apart.
 #[derive(Clone, Copy)]
 pub struct Lock {
     pub password: [u8; 16],
@@ -123,6 +124,8 @@ pub fn make(password: &[u8]) -> Made
         making: Making::Done,
     }
 }
+
+// Record and payload stay two parameters below: a struct of both lengthens each clause by its fields.
 
 // Whether the block has byte 1 and as many bytes behind it as that says.
 fn long_enough(payload: &[u8]) -> bool

@@ -15,7 +15,7 @@ ghost use Rattle.text.specs.Text.{digit_of, hex_of, decimal_of};
 use base::{Refusal, Written, copy};
 use itoa::Buffer;
 
-// The hex digit of a number below 16.
+// The hex digit of a number below 16. (The library's `char::from_digit` gives small letters.)
 fn digit(d: u8) -> u8
     requires { d < 16 }
     ensures { result ≡ digit_of d }

@@ -20,6 +20,7 @@ fn behind(at: usize, n: usize, length: usize) -> usize
 }
 
 // Each of these writes a text from a place on and answers the place behind it.
+// Output and place stay two parameters: `Put`, in which callers' promises are written, has them apart.
 
 pub fn put(bytes: &[u8], out: &mut [u8], at: usize) -> usize
     ensures { Put out.old out.new at result bytes.now }
