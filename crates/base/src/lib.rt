@@ -21,7 +21,7 @@ pub const PROTECTION_GROUP: u32 = 8192;
 pub const READ_BLOCK: u32 = 2048;
 
 // Document 01, "Refusal numbers": a name for each row of the table, in its order.
-#[derive(Clone, Copy)]
+#[derive(Clone, Copy, PartialEq, Eq)]
 pub enum Refusal {
     FrameLength,
     FrameBits,
@@ -47,6 +47,7 @@ pub enum Refusal {
 }
 
 // The number that document 01 gives a refusal: the only place where the code turns one into it.
+// No `From`: docs/PROMISES.md names `number`, and the edit number_shared an arm of it.
 pub fn number(r: Refusal) -> u8
     ensures answer { result ≡ number_of r }
 {
@@ -79,17 +80,15 @@ pub fn number(r: Refusal) -> u8
 pub fn least(a: usize, b: usize) -> usize
     ensures answer { result ≡ min a b }
 {
-    if a < b { a } else { b }
+    a.min(b)
 }
 
 // Every byte made one value.
 pub fn fill(bytes: &mut [u8], value: u8)
     ensures bytes { bytes.new ≡ replicate (length bytes.old) value }
 {
-    let mut i: usize = 0;
-    while i < bytes.len() {
-        bytes[i] = value;
-        i += 1;
+    for byte in bytes {
+        *byte = value;
     }
 }
 
@@ -97,11 +96,7 @@ pub fn fill(bytes: &mut [u8], value: u8)
 pub fn copy(bytes: &[u8], over: &mut [u8], at: usize)
     ensures over { over.new ≡ copied bytes.now over.old at }
 {
-    let room = over.len() - least(at, over.len());
-    let n = least(bytes.len(), room);
-    let mut i: usize = 0;
-    while i < n {
-        over[at + i] = bytes[i];
-        i += 1;
-    }
+    let from = at.min(over.len());
+    let n = bytes.len().min(over.len() - from);
+    over[from..from + n].copy_from_slice(&bytes[..n]);
 }

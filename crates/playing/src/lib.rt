@@ -11,7 +11,7 @@ ghost use Rattle.playing.specs.Playing.{kept_of};
 
 // How a script goes on behind a record: with the next one; not at all; once the record, of which not
 // all bytes are there yet, is whole; or once there is room for its line. The last two did nothing.
-#[derive(Clone, Copy)]
+#[derive(Clone, Copy, PartialEq, Eq)]
 pub enum Then {
     Goes,
     Stops,
@@ -24,15 +24,10 @@ pub fn keep(buffer: &mut [u8], from: usize, to: usize) -> usize
     ensures answer { result ≡ min to (length buffer.old) - from }
     ensures buffer { buffer.new ≡ kept_of from result buffer.old }
 {
-    let end = base::least(to, buffer.len());
+    let end = to.min(buffer.len());
     if end <= from {
         return 0;
     }
-    let n = end - from;
-    let mut i: usize = 0;
-    while i < n {
-        buffer[i] = buffer[from + i];
-        i += 1;
-    }
-    n
+    buffer.copy_within(from..end, 0);
+    end - from
 }

@@ -8,23 +8,19 @@ ghost use Rattle.text.specs.Lines.{number_text, hex_text, end_text, head_text, w
 ghost use Rattle.text.specs.Text.{hex_of, decimal_of};
 ghost use Rattle.text.specs.Writing.{Put};
 
-use crate::{digit, spell};
-use base::{Refusal, copy, least};
+use crate::digit;
+use base::{Refusal, copy};
+use itoa::Buffer;
 
 // The place so many bytes behind another, within a length.
 fn behind(at: usize, n: usize, length: usize) -> usize
     ensures { result ≡ min (at + n) length }
 {
-    if length <= at {
-        return length;
-    }
-    if length - at <= n {
-        return length;
-    }
-    at + n
+    at.saturating_add(n).min(length)
 }
 
 // Each of these writes a text from a place on and answers the place behind it.
+// Output and place stay two parameters: `Put`, in which callers' promises are written, has them apart.
 
 pub fn put(bytes: &[u8], out: &mut [u8], at: usize) -> usize
     ensures { Put out.old out.new at result bytes.now }
@@ -33,25 +29,20 @@ pub fn put(bytes: &[u8], out: &mut [u8], at: usize) -> usize
     behind(at, bytes.len(), out.len())
 }
 
+#[tactic(auto, using(crate::proofs::Digits::written))]
 fn decimal(n: u64, out: &mut [u8], at: usize) -> usize
     ensures { Put out.old out.new at result (decimal_of n) }
 {
-    let spelt = spell(n);
-    let from = spelt.from;
-    let text = spelt.text;
-    put(&text[from..20], out, at)
+    put(Buffer::new().format(n).as_bytes(), out, at)
 }
 
 pub fn hex(bytes: &[u8], out: &mut [u8], at: usize) -> usize
     ensures { Put out.old out.new at result (hex_of bytes.now) }
 {
-    let mut place = least(at, out.len());
-    let mut i: usize = 0;
-    while i < bytes.len() {
-        let b = bytes[i];
+    let mut place = at.min(out.len());
+    for &b in bytes {
         let pair = [digit(b / 16), digit(b % 16)];
         place = put(&pair, out, place);
-        i += 1;
     }
     place
 }
@@ -71,10 +62,11 @@ pub fn hexed(bytes: &[u8], out: &mut [u8], at: usize) -> usize
 }
 
 // The end of a line: no space goes before bytes that are none.
+#[tactic(auto, using(crate::proofs::Writing::put_both), unfolding(crate::specs::Lines::end_text))]
 pub fn ending(bytes: &[u8], out: &mut [u8], at: usize) -> usize
     ensures { Put out.old out.new at result (end_text bytes.now) }
 {
-    if bytes.len() == 0 {
+    if bytes.is_empty() {
         return put(b"\n", out, at);
     }
     let a = hexed(bytes, out, at);
@@ -98,6 +90,7 @@ pub fn say(count: u64, word: &[u8], bytes: &[u8], out: &mut [u8]) -> usize
     ending(bytes, out, a)
 }
 
+#[tactic(auto, using(crate::proofs::Writing::put_both), unfolding(crate::specs::Lines::plain_line))]
 pub fn plain(word: &[u8], out: &mut [u8]) -> usize
     ensures { Put out.old out.new 0 result (plain_line word.now) }
 {

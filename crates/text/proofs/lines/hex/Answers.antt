@@ -9,13 +9,13 @@ use Rattle.text.proofs.Writing.{put_both, put_none, put_as}
 use Rattle.text.specs.Text.{hex_of}
 use Rattle.text.proofs.lines.hex.Goals as goal
 
-pub loop-i-init : goal.loop-i-init
+pub loop-b-init : goal.loop-b-init
 unfolding hex_of
-loop-i-init c = (search rules, refl, put_none _ _ _ c.least-place.ensures.answer)
+loop-b-init c = (refl, put_none _ _ _ (search rules))
 
-pub loop-i-preserved : goal.loop-i-preserved
-loop-i-preserved c =
-    let l = c.loop-i in
+pub loop-b-preserved : goal.loop-b-preserved
+loop-b-preserved c =
+    let l = c.loop-b in
     let s = c.args.bytes.now in
-    let digits = ap₂ (λ (x y : ℕ). hex_of (take l.i s) ++ (x ∷ y ∷ [])) c.digit.ensures c.digit-in-loop-i.ensures in
-    (search rules, search rules, put_as (digits ∙ sym (turn s l.i (omega arith))) (put_both l.invariant.2 c.put-place.ensures))
+    let digits = ap₂ (λ (x y : ℕ). hex_of (take l.b-index s) ++ (x ∷ y ∷ [])) c.digit.ensures c.digit-in-loop-b.ensures in
+    (search rules, put_as (digits ∙ sym (turn s l.b-index (omega arith))) (put_both l.invariant.1 c.put-place.ensures))
