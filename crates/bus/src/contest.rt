@@ -7,7 +7,6 @@ ghost use Rattle.shared_line.specs.Lowest.{is_low};
 
 use crate::{Bus, places};
 use card_record::Card;
-use shared_line::Low;
 
 // Whether a card is Ready, and what its type says of its CID.
 fn is_ready(card: Card) -> bool
@@ -25,7 +24,8 @@ fn is_ready(card: Card) -> bool
 
 // The smallest CID among the Ready cards, for CMD2 alone. What was found is made anew only where a
 // lower one comes, since it is copied.
-pub fn lowest(bus: Bus, index: u8) -> Low
+#[tactic(auto, unfolding(crate::specs::Contest::low_for))]
+pub fn lowest(bus: Bus, index: u8) -> Option<[u8; 16]>
     ensures answer { result ≡ low_for bus index }
     ensures bytes { HeldAll bus index }
 {
@@ -34,17 +34,15 @@ pub fn lowest(bus: Bus, index: u8) -> Low
     }
     let end = places(bus.count);
     let mut low = shared_line::nobody();
-    let mut i: usize = 0;
-    while i < end {
+    for i in 0..end {
         let card = bus.cards[i];
         if is_ready(card) {
             let registers = card.registers;
             let cid = registers.cid;
             if shared_line::is_lower(low, cid) {
-                low = Low { any: true, cid };
+                low = Some(cid);
             }
         }
-        i += 1;
     }
     low
 }
@@ -54,14 +52,11 @@ pub fn lowest(bus: Bus, index: u8) -> Low
 pub fn contends(any: bool, card: Card) -> bool
     ensures { result ≡ (any && is_ready card) }
 {
-    if !any {
-        return false;
-    }
-    is_ready(card)
+    any && is_ready(card)
 }
 
 // Whether a card that contends holds the smallest CID.
-pub fn holds(low: Low, card: Card) -> bool
+pub fn holds(low: Option<[u8; 16]>, card: Card) -> bool
     ensures { result ≡ is_low low (cid_of card) }
 {
     let registers = card.registers;

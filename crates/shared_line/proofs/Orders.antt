@@ -13,14 +13,14 @@ use borrow.Author.Tests.{ltb-true, ltb-false, eqb-true, eqb-false, eq-eqb, ne_eq
 use lib.Dec.{eqb, ltb}
 use lib.ListN.{length}
 use lib.Pointwise.{pointwise}
-use Rattle.std.specs.Prelude.{Option, Some}
+use Rattle.std.specs.Prelude.{Some}
 use Rattle.std.specs.declared.cmp.Ordering.TheVariants.{Less, Equal, Greater}
 use Rattle.std.specs.Ordering.{is_lt, is_some_and, nat_cmp}
 use Rattle.std.specs.Cmp.Lexicographic.{slice_partial_cmp, lists_agrees}
 use Rattle.base.proofs.Cases.{cases}
 use Rattle.crc.specs.Bits.{Below}
 use Rattle.shared_line.proofs.Numbers.{number_less, number_same}
-use Rattle.shared_line.specs.Lowest.{cid_number, order_of, is_lower, is_low}
+use Rattle.shared_line.specs.Lowest.{cid_number, order_of, Low, is_lower, is_low}
 
 -- ---- a comparison
 pub order_smaller : (a b : List ℕ) → cid_number a < cid_number b → order_of a b ≡ Less
@@ -53,7 +53,7 @@ by_order_lem a b smaller same larger =
     larger h (order_larger a b h)))
 
 -- ---- the smallest
-module _ (low : Option (List ℕ)) (cid found : List ℕ) (is : low ≡ Some found) where
+module _ (low : Low) (cid found : List ℕ) (is : low ≡ Some found) where
   pub lower_some : length cid ≡ length found → Below 256 cid → Below 256 found → (r : Bool)
       → r ≡ is_some_and is_lt (slice_partial_cmp (λ x y. Some (nat_cmp x y)) cid found) → r ≡ is_lower low cid
   unfolding is_lower

@@ -19,23 +19,27 @@ by_order Less a b c = a
 by_order Equal a b c = b
 by_order Greater a b c = c
 
+-- the smallest CID among those that were sent, if any was
+abbrev pub Low : Type 0
+Low = Option (List ℕ)
+
 -- no CID yet, and one that was sent
-unfoldable pub no_low : Option (List ℕ)
+unfoldable pub no_low : Low
 no_low = None
 
-abbrev pub low_by : List ℕ → Option (List ℕ)
+abbrev pub low_by : List ℕ → Low
 low_by cid = Some cid
 
 -- whether a CID is smaller than the one that was found, as any is where none was
-unfoldable pub is_lower : Option (List ℕ) → List ℕ → Bool
+unfoldable pub is_lower : Low → List ℕ → Bool
 is_lower None cid = true
 is_lower (Some low) cid = by_order (order_of cid low) true false false
 
 -- what was found, or one more CID where nothing smaller was found
-unfoldable pub lower_of : Option (List ℕ) → List ℕ → Option (List ℕ)
+unfoldable pub lower_of : Low → List ℕ → Low
 lower_of low cid = pick (is_lower low cid) (low_by cid) low
 
 -- whether a CID is the one that was found
-unfoldable pub is_low : Option (List ℕ) → List ℕ → Bool
+unfoldable pub is_low : Low → List ℕ → Bool
 is_low None cid = false
 is_low (Some low) cid = by_order (order_of cid low) false true false
