@@ -4,7 +4,7 @@
 --   lower_some     whether one more is smaller than what was found, as the bytes tell
 --   low_some       whether it is what was found
 -- Assumes nothing.
-use mathlib.Core.Path.{◌≡◌, refl, ap, ◌∙◌}
+use mathlib.Core.Path.{◌≡◌, ◌∙◌}
 use mathlib.Core.Bool.{Bool}
 use mathlib.Core.List.{List}
 use Prim.Native.Nat.{ℕ, ◌<◌}
@@ -15,8 +15,8 @@ use lib.ListN.{length}
 use lib.Pointwise.{pointwise}
 use Rattle.std.specs.Prelude.{Some}
 use Rattle.std.specs.declared.cmp.Ordering.TheVariants.{Less, Equal, Greater}
-use Rattle.std.specs.Ordering.{is_lt, is_some_and, nat_cmp}
-use Rattle.std.specs.Cmp.Lexicographic.{slice_partial_cmp, lists_agrees}
+use Rattle.std.specs.Ordering.{is_lt, nat_cmp}
+use Rattle.std.specs.Cmp.Lexicographic.{slice_cmp}
 use Rattle.base.proofs.Cases.{cases}
 use Rattle.crc.specs.Bits.{Below}
 use Rattle.shared_line.proofs.Numbers.{number_less, number_same}
@@ -55,12 +55,12 @@ by_order_lem a b smaller same larger =
 -- ---- the smallest
 module _ (low : Low) (cid found : List ℕ) (is : low ≡ Some found) where
   pub lower_some : length cid ≡ length found → Below 256 cid → Below 256 found → (r : Bool)
-      → r ≡ is_some_and is_lt (slice_partial_cmp (λ x y. Some (nat_cmp x y)) cid found) → r ≡ is_lower low cid
+      → r ≡ is_lt (slice_cmp nat_cmp cid found) → r ≡ is_lower low cid
   unfolding is_lower
   lower_some n wa wb r e =
       let x : ℕ = cid_number cid in
       let y : ℕ = cid_number found in
-      let less : r ≡ ltb x y = e ∙ ap (is_some_and is_lt) (lists_agrees {R = nat_cmp} (λ x y. refl) cid found) ∙ number_less cid found n wa wb in
+      let less : r ≡ ltb x y = e ∙ number_less cid found n wa wb in
       by_order_lem cid found (λ h by. rw (is, by) (less ∙ lt-ltb x y h)) (λ h by. rw (is, by) (less ∙ le-ltb x y (omega arith)))
       (λ h by. rw (is, by) (less ∙ le-ltb x y (omega arith)))
 
