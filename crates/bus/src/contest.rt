@@ -7,19 +7,14 @@ ghost use Rattle.shared_line.specs.Lowest.{is_low};
 
 use crate::{Bus, places};
 use card_record::Card;
+use states::Column;
 
 // Whether a card is Ready, and what its type says of its CID.
 fn is_ready(card: Card) -> bool
     ensures answer { result ≡ is_ready card }
     ensures bytes { Held card }
 {
-    if card.mode.spi {
-        return false;
-    }
-    let link = card.link;
-    let state = link.state;
-    let on = states::column_of(state);
-    states::number(on) == 1
+    !card.mode.spi && matches!(states::column_of(card.link.state), Column::Ready)
 }
 
 // The smallest CID among the Ready cards, for CMD2 alone. What was found is made anew only where a
@@ -37,8 +32,7 @@ pub fn lowest(bus: Bus, index: u8) -> Option<[u8; 16]>
     for i in 0..end {
         let card = bus.cards[i];
         if is_ready(card) {
-            let registers = card.registers;
-            let cid = registers.cid;
+            let cid = card.registers.cid;
             if shared_line::is_lower(low, cid) {
                 low = Some(cid);
             }
@@ -59,7 +53,5 @@ pub fn contends(any: bool, card: Card) -> bool
 pub fn holds(low: Option<[u8; 16]>, card: Card) -> bool
     ensures { result ≡ is_low low (cid_of card) }
 {
-    let registers = card.registers;
-    let cid = registers.cid;
-    shared_line::is_low(low, cid)
+    shared_line::is_low(low, card.registers.cid)
 }

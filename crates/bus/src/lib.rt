@@ -18,6 +18,7 @@ use hearing::{asked_of, decide, line_by, quiet, shown_by, turn};
 use std::marker::Model;
 
 // The cards in the places from 0 on; a count over 30 reads as 30.
+// An array with a count, since there is no heap, and `count_of` and `cards_of` of specs/Bus.antt name both.
 #[derive(Clone, Copy)]
 pub struct Bus {
     pub cards: [Card; 30],
@@ -71,6 +72,7 @@ pub struct Taken {
 
 // What the line holds of the frames so far: their AND, and how many bytes the longest has, which is
 // no more than the line.
+// An array with a length, since there is no heap.
 #[derive(Clone, Copy)]
 pub struct Heard {
     line: [u8; 17],
