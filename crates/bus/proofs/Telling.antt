@@ -43,8 +43,8 @@ use Rattle.bus.specs.Hearing.{quiet, heard_of, heard_from, turn_of, sent_on, tol
 use Rattle.bus.specs.declared.Bus.{Bus}
 use Rattle.bus.specs.declared.Framed.{Framed}
 use Rattle.bus.specs.declared.Heard.{Heard}
-use Rattle.shared_line.specs.Lowest.{no_low}
-use Rattle.shared_line.specs.declared.Low.{Low}
+use Rattle.shared_line.specs.Lowest.{Low, no_low}
+use Rattle.std.specs.Prelude.{is_some}
 use Rattle.bus.specs.declared.Turned.{Turned}
 use Rattle.std.specs.Prelude.{Result, Option, Ok, Some, None}
 use Rattle.base.specs.declared.Refusal.{Refusal}
@@ -162,14 +162,14 @@ module _ (bus : Bus) (index argument : ℕ) where
       (kept ∙ more.0, ap (λ (t : Turned). t.heard) (sym same) ∙ more.1)
 
   -- a loser: the contest is CMD2's alone
-  pub lost_alone : (low : Low) (card : Card) → low ≡ low_for bus index → low.any ≡ true → command_on card false index argument ≡ silent card.link
+  pub lost_alone : (low : Low) (card : Card) → low ≡ low_for bus index → is_some low ≡ true → command_on card false index argument ≡ silent card.link
   unfolding low_for no_low
   lost_alone low card found any =
       cases (eqb index 2)
       (λ (t : eqb index 2 ≡ true).
       subst (λ (k : ℕ). command_on card false k argument ≡ silent card.link) (sym (eqb-true index 2 t)) (taken_lost card argument))
       (λ (t : eqb index 2 ≡ false).
-      let none : low.any ≡ false = ap (λ (l : Low). l.any) (simp t at found) in
+      let none : is_some low ≡ false = ap is_some (simp t at found) in
       absurd (false≢true (sym none ∙ any)))
 
 -- ---- all at once

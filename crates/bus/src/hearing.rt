@@ -1,6 +1,6 @@
 // A frame as the bus hears it: what it asks of the cards, a card's turn, and what the line then
 // shows. A command reaches a card through `command::decide` and `command::follow` alone.
-ghost use Rattle.std.specs.Prelude.{◌≡◌, ◌≤◌, max};
+ghost use Rattle.std.specs.Prelude.{◌≡◌, ◌≤◌};
 ghost use Rattle.bus.specs.Bus.{shown_of, padded, bus_indices};
 ghost use Rattle.bus.specs.Hearing.{bus_asked, quiet, heard_of, decided_at, turn_of, sent_on};
 ghost use Rattle.command.specs.Command.{met_by};
@@ -54,29 +54,20 @@ pub fn asked_of(count: usize, frame: &[u8]) -> Asked
 }
 
 // The line before anyone sends.
+#[tactic(auto, unfolding(crate::specs::Hearing::quiet))]
 pub fn quiet() -> Heard
     ensures { result ≡ quiet }
 {
     Heard {
         line: [0xFF; 17],
-        length: 0,
+        longest: 0,
     }
-}
-
-fn longer(a: usize, b: usize) -> usize
-    ensures { result ≡ max a b }
-{
-    if a < b {
-        return b;
-    }
-    a
 }
 
 // The line after one more card has sent.
 fn hear(heard: Heard, registers: Registers, sent: Sent) -> Heard
-    requires { (heard.length ≤ 17) × Sendable sent }
-    ensures answer { result ≡ heard_of heard (sent_bytes registers sent) }
-    ensures short { result.length ≤ 17 }
+    requires { Sendable sent }
+    ensures { result ≡ heard_of heard (sent_bytes registers sent) }
 {
     let mut sends = [0u8; 17];
     let written = card_record::write_sent(registers, sent, &mut sends);
@@ -84,7 +75,7 @@ fn hear(heard: Heard, registers: Registers, sent: Sent) -> Heard
     match written {
         Ok(n) => Heard {
             line: shared_line::and(line, &sends[0..n]),
-            length: longer(heard.length, n),
+            longest: heard.longest.max(n),
         },
         Err(_) => heard,
     }
@@ -126,9 +117,8 @@ pub fn turn(
     argument: u32,
     decided: Decided,
 ) -> Turned
-    requires { (heard.length ≤ 17) × (index ≤ 63) × (decided ≡ decided_at card wins index argument) }
-    ensures answer { result ≡ turn_of heard card wins index argument }
-    ensures short { result.heard.length ≤ 17 }
+    requires { (index ≤ 63) × (decided ≡ decided_at card wins index argument) }
+    ensures { result ≡ turn_of heard card wins index argument }
 {
     let link = card.link;
     let given = command::follow(link, met_by(card, wins), index, argument, decided);
@@ -143,10 +133,9 @@ pub fn turn(
 
 // What the line shows.
 pub fn shown_by(heard: Heard) -> Result<Option<usize>, Refusal>
-    requires { heard.length ≤ 17 }
     ensures { result ≡ shown_of (sent_on heard) }
 {
-    let length = heard.length;
+    let length = heard.longest;
     if length < 1 {
         return Ok(None);
     }
@@ -155,11 +144,11 @@ pub fn shown_by(heard: Heard) -> Result<Option<usize>, Refusal>
 
 // Its bytes, and zeros behind them.
 pub fn line_by(heard: Heard) -> [u8; 17]
-    requires { heard.length ≤ 17 }
     ensures answer { result ≡ padded (sent_on heard) }
+    ensures short { heard.length ≤ 17 }
     ensures bytes { Below 256 heard.line }
 {
-    let length = heard.length;
+    let length = heard.longest;
     let held = heard.line;
     let mut line = [0; 17];
     copy(&held[0..length], &mut line, 0);

@@ -15,8 +15,10 @@ use base::Refusal;
 use card_record::Card;
 use contest::{contends, holds, lowest};
 use hearing::{asked_of, decide, line_by, quiet, shown_by, turn};
+use std::marker::Model;
 
 // The cards in the places from 0 on; a count over 30 reads as 30.
+// An array with a count, since there is no heap, and `count_of` and `cards_of` of specs/Bus.antt name both.
 #[derive(Clone, Copy)]
 pub struct Bus {
     pub cards: [Card; 30],
@@ -48,11 +50,26 @@ pub enum Asked {
     Refused(Refusal),
 }
 
-// What the line holds of the frames so far: their AND, and the length of the longest.
+// What the line holds of the frames so far: their AND, and how many bytes the longest has, which is
+// no more than the line.
+// An array with a length, since there is no heap.
 #[derive(Clone, Copy)]
 pub struct Heard {
-    pub line: [u8; 17],
-    pub length: usize,
+    line: [u8; 17],
+    longest: usize,
+}
+
+impl Model for Heard {
+    ghost use Rattle.std.specs.Prelude.{◌≤◌};
+    ghost use Rattle.bus.specs.OnLine.{OnLine};
+
+    ghost Value = { OnLine };
+
+    ghost view = { λ h. record { line = h.line; length = h.longest } };
+
+    ghost invariant = { λ h. h.longest ≤ 17 };
+
+    ghost inverse = { λ v. record { line = v.line; longest = v.length } };
 }
 
 // A card after its turn, and what the line then holds.
@@ -66,13 +83,11 @@ pub struct Turned {
 fn places(count: usize) -> usize
     ensures { result ≡ min count most }
 {
-    if count < 30 {
-        return count;
-    }
-    30
+    count.min(30)
 }
 
 // A bus with no card.
+#[tactic(auto, unfolding(crate::specs::Bus::empty_bus))]
 pub fn empty() -> Bus
     ensures answer { result ≡ empty_bus }
 {
@@ -113,6 +128,7 @@ pub fn take(bus: Bus, place: usize) -> Option<Card>
 }
 
 // A card back into a place that is taken.
+#[tactic(auto, unfolding(crate::specs::Bus::put_into))]
 pub fn put(bus: Bus, place: usize, card: Card) -> Bus
     ensures answer { result ≡ put_into bus place card }
 {
@@ -156,12 +172,10 @@ fn damage(bus: Bus) -> Bus
 {
     let end = places(bus.count);
     let mut next = bus;
-    let mut i: usize = 0;
-    while i < end {
+    for i in 0..end {
         let card = next.cards[i];
         let told = damaged(card);
         next.cards[i] = told;
-        i += 1;
     }
     next
 }
@@ -185,7 +199,7 @@ pub fn frame(bus: Bus, frame: &[u8]) -> Framed
             for i in 0..end {
                 let seen = next.cards[i];
                 let mut won = false;
-                if contends(low.any, seen) {
+                if contends(low.is_some(), seen) {
                     if !holds(low, seen) {
                         continue;
                     }

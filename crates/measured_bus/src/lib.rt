@@ -29,6 +29,7 @@ fn cid_at(cids: &[u8; 480], place: usize) -> [u8; 16]
     cid
 }
 
+#[tactic(auto, unfolding(crate::specs::Rounds::ready_card))]
 fn ready_card(cid: [u8; 16]) -> Card
     ensures { result ≡ ready_card cid }
 {
@@ -51,17 +52,16 @@ fn ready_card(cid: [u8; 16]) -> Card
 }
 
 // A bus with so many cards added, as far as it takes them.
+#[tactic(auto, unfolding(crate::specs::Rounds::bus_of))]
 fn bus_of(cids: &[u8; 480], count: usize) -> Bus
     ensures { result ≡ bus_of cids.now count }
 {
     let mut bus = bus::empty();
-    let mut place: usize = 0;
-    while place < count {
+    for place in 0..count {
         let cid = cid_at(cids, place);
         let card = ready_card(cid);
         let added = bus::add(bus, card);
         bus = added.bus;
-        place += 1;
     }
     bus
 }
@@ -97,20 +97,19 @@ fn heard(shown: Result<Option<usize>, Refusal>) -> usize
 }
 
 // So many rounds, each CMD2 and then CMD3.
+#[tactic(auto, unfolding(crate::specs::Rounds::after_rounds, crate::specs::Rounds::answered_in))]
 fn play(bus: Bus, rounds: usize) -> Played
     ensures { result ≡ played_on bus rounds }
 {
     let who = cmd2();
     let mut next = bus;
     let mut answered: usize = 0;
-    let mut k: usize = 0;
-    while k < rounds {
+    for k in 0..rounds {
         let asked = bus::frame(next, &who);
         let shown = asked.shown;
         let found = asked.bus;
         answered += heard(shown);
-        k += 1;
-        let address = cmd3(k);
+        let address = cmd3(k + 1);
         let told = bus::frame(found, &address);
         next = told.bus;
     }
@@ -124,15 +123,7 @@ fn play(bus: Bus, rounds: usize) -> Played
 fn addresses_of(bus: Bus) -> [u16; 30]
     ensures { result ≡ addresses_of bus }
 {
-    let mut addresses = [0; 30];
-    let mut place: usize = 0;
-    while place < 30 {
-        let card = bus.cards[place];
-        let link = card.link;
-        addresses[place] = link.address;
-        place += 1;
-    }
-    addresses
+    bus.cards.map(|card| card.link.address)
 }
 
 // Rounds of CMD2 and CMD3 on a bus of cards in Ready: how many CMD2 got an answer, and the address

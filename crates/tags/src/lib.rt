@@ -7,13 +7,13 @@
 #![tactic(auto)]
 
 ghost use Rattle.std.specs.Prelude.{◌≡◌};
-ghost use Rattle.tags.specs.Tagging.{tags_of, no_tags, any_of, is_complete, place_in, tag_failed, same_kind, has_start, first_of, one_group, start_tagged, end_tagged};
+ghost use Rattle.tags.specs.Tagging.{tags_of, no_tags, any_of, is_complete, place_in, tag_failed, has_start, first_of, one_group, start_tagged, end_tagged};
 ghost use Rattle.tags.specs.Tags.{within, tagged_of};
 
 use base::{ERASE_GROUP, SECTOR};
 use status::ErrorBit;
 
-#[derive(Clone, Copy)]
+#[derive(Clone, Copy, PartialEq, Eq)]
 pub enum Kind {
     Sectors,
     Groups,
@@ -42,10 +42,7 @@ pub struct Tagging {
 fn within(n: u32, first: u32, last: u32) -> bool
     ensures { result ≡ within n first last }
 {
-    if first <= n {
-        return n <= last;
-    }
-    false
+    first <= n && n <= last
 }
 
 // Whether an erase would take a sector, protection apart.
@@ -122,6 +119,7 @@ fn fail(bit: ErrorBit) -> Tagging
 }
 
 // CMD32, 35.
+#[tactic(auto, unfolding(crate::specs::Tagging::start_tagged))]
 pub fn tag_start(kind: Kind, address: u32, size: u32) -> Tagging
     ensures answer { result ≡ start_tagged kind address size }
 {
@@ -135,29 +133,14 @@ pub fn tag_start(kind: Kind, address: u32, size: u32) -> Tagging
     }
 }
 
-fn same_kind(a: Kind, b: Kind) -> bool
-    ensures { result ≡ same_kind a b }
-{
-    match a {
-        Kind::Sectors => match b {
-            Kind::Sectors => true,
-            Kind::Groups => false,
-        },
-        Kind::Groups => match b {
-            Kind::Sectors => false,
-            Kind::Groups => true,
-        },
-    }
-}
-
 fn has_start(tags: Tags, kind: Kind) -> bool
     ensures { result ≡ has_start kind tags.range }
 {
     let range = tags.range;
     match range {
         Range::Nothing => false,
-        Range::Start(of, _) => same_kind(kind, of),
-        Range::Full(of, _, _) => same_kind(kind, of),
+        Range::Start(of, _) => kind == of,
+        Range::Full(of, _, _) => kind == of,
     }
 }
 
@@ -183,6 +166,7 @@ fn in_one_group(kind: Kind, first: u32, last: u32) -> bool
 }
 
 // CMD33, 36.
+#[tactic(auto, unfolding(crate::specs::Tagging::end_tagged))]
 pub fn tag_end(tags: Tags, kind: Kind, address: u32, size: u32) -> Tagging
     ensures answer { result ≡ end_tagged tags kind address size }
 {
