@@ -1,6 +1,6 @@
 // The records by kind: what each asks for.
 ghost use Rattle.std.specs.Prelude.{◌≡◌};
-ghost use Rattle.cardline_script.specs.Reading.{complete, not_too_big, sized, making_asked, make_asked, frame_asked, counted_asked, block_out_asked, memory_asked, lend_asked, poke_asked, write_frame_asked, write_block_asked};
+ghost use Rattle.cardline_script.specs.Reading.{complete, not_too_big, sized, making_asked, make_asked, frame_asked, counted_asked, block_in_asked, block_out_asked, memory_asked, lend_asked, poke_asked, write_frame_asked, write_block_asked, check_asked};
 
 use crate::numbers::{byte, four, three, two};
 use crate::{Asked, Calling, Going, Looking, Making, Sizes, Stop, Wiring};
@@ -9,10 +9,7 @@ use crate::{Asked, Calling, Going, Looking, Making, Sizes, Stop, Wiring};
 fn complete(n: usize, script: &[u8], then: Asked) -> Asked
     ensures { result ≡ complete n script.now then }
 {
-    if script.len() < n {
-        return Asked::More;
-    }
-    then
+    if script.len() < n { Asked::More } else { then }
 }
 
 // What is asked for, if a length of two bytes is not too big.
@@ -36,6 +33,7 @@ fn sized(memory: u32, then: Asked) -> Asked
 }
 
 // A make behind its first number.
+#[tactic(auto, unfolding(crate::specs::Reading::making_asked))]
 fn making_asked(memory: u32, script: &[u8]) -> Asked
     ensures { result ≡ making_asked memory script.now }
 {
@@ -56,6 +54,7 @@ fn making_asked(memory: u32, script: &[u8]) -> Asked
     complete(map as usize + 43, script, all)
 }
 
+#[tactic(auto, unfolding(crate::specs::Reading::make_asked))]
 pub fn make_asked(script: &[u8]) -> Asked
     ensures { result ≡ make_asked script.now }
 {
@@ -66,6 +65,7 @@ pub fn make_asked(script: &[u8]) -> Asked
 }
 
 // A frame, with the card's select line low (`selected`) or high.
+#[tactic(auto, unfolding(crate::specs::Reading::frame_asked))]
 pub fn frame_asked(script: &[u8], selected: bool) -> Asked
     ensures { result ≡ frame_asked script.now selected }
 {
@@ -82,7 +82,8 @@ pub fn frame_asked(script: &[u8], selected: bool) -> Asked
 }
 
 // A length of two bytes, as many bytes, and so many bytes more.
-pub fn counted_asked(script: &[u8], more: u8, then: Asked) -> Asked
+#[tactic(auto, unfolding(crate::specs::Reading::counted_asked))]
+fn counted_asked(script: &[u8], more: u8, then: Asked) -> Asked
     ensures { result ≡ counted_asked script.now more then }
 {
     let n = two(script, 1);
@@ -91,6 +92,14 @@ pub fn counted_asked(script: &[u8], more: u8, then: Asked) -> Asked
     complete(3, script, right)
 }
 
+pub fn block_in_asked(script: &[u8]) -> Asked
+    ensures { result ≡ block_in_asked script.now }
+{
+    let n = two(script, 1);
+    counted_asked(script, 0, Asked::Go(Going::Call(Calling::BlockIn(n))))
+}
+
+#[tactic(auto, unfolding(crate::specs::Reading::block_out_asked))]
 pub fn block_out_asked(script: &[u8]) -> Asked
     ensures { result ≡ block_out_asked script.now }
 {
@@ -99,6 +108,7 @@ pub fn block_out_asked(script: &[u8]) -> Asked
     complete(3, script, right)
 }
 
+#[tactic(auto, unfolding(crate::specs::Reading::memory_asked))]
 pub fn memory_asked(script: &[u8]) -> Asked
     ensures { result ≡ memory_asked script.now }
 {
@@ -111,6 +121,7 @@ pub fn memory_asked(script: &[u8]) -> Asked
     complete(6, script, right)
 }
 
+#[tactic(auto, unfolding(crate::specs::Reading::lend_asked))]
 pub fn lend_asked(script: &[u8]) -> Asked
     ensures { result ≡ lend_asked script.now }
 {
@@ -121,6 +132,7 @@ pub fn lend_asked(script: &[u8]) -> Asked
     complete(5, script, Asked::Go(Going::Look(Looking::Lend(sizes))))
 }
 
+#[tactic(auto, unfolding(crate::specs::Reading::poke_asked))]
 pub fn poke_asked(script: &[u8]) -> Asked
     ensures { result ≡ poke_asked script.now }
 {
@@ -133,6 +145,7 @@ pub fn poke_asked(script: &[u8]) -> Asked
     )
 }
 
+#[tactic(auto, unfolding(crate::specs::Reading::write_frame_asked))]
 pub fn write_frame_asked(script: &[u8]) -> Asked
     ensures { result ≡ write_frame_asked script.now }
 {
@@ -150,6 +163,7 @@ pub fn write_frame_asked(script: &[u8]) -> Asked
     )
 }
 
+#[tactic(auto, unfolding(crate::specs::Reading::write_block_asked))]
 pub fn write_block_asked(script: &[u8]) -> Asked
     ensures { result ≡ write_block_asked script.now }
 {
@@ -157,4 +171,11 @@ pub fn write_block_asked(script: &[u8]) -> Asked
     let room = two(script, length as usize + 3);
     let right = not_too_big(room, Asked::Go(Going::Wire(Wiring::Block { length, room })));
     counted_asked(script, 2, right)
+}
+
+pub fn check_asked(script: &[u8]) -> Asked
+    ensures { result ≡ check_asked script.now }
+{
+    let n = two(script, 1);
+    counted_asked(script, 0, Asked::Go(Going::Wire(Wiring::Check(n))))
 }

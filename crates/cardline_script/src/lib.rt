@@ -10,14 +10,13 @@ mod lengths;
 pub mod numbers;
 
 ghost use Rattle.std.specs.Prelude.{◌≡◌};
-ghost use Rattle.cardline_script.specs.Reading.{more_asked, shown_asked, spi_asked, asked_of};
+ghost use Rattle.cardline_script.specs.Reading.{more_asked, asked_of};
 
 use kinds::{
-    block_out_asked, counted_asked, frame_asked, lend_asked, make_asked, memory_asked, poke_asked,
-    write_block_asked, write_frame_asked,
+    block_in_asked, block_out_asked, check_asked, frame_asked, lend_asked, make_asked,
+    memory_asked, poke_asked, write_block_asked, write_frame_asked,
 };
 pub use lengths::used;
-use numbers::{byte, two};
 
 // The bytes of a memory and of a map.
 #[derive(Clone, Copy)]
@@ -90,83 +89,38 @@ pub enum Asked {
 }
 
 // A record of a script whose card is made.
+#[tactic(auto, unfolding(crate::specs::Reading::more_asked, crate::specs::Reading::shown_asked, crate::specs::Reading::spi_asked))]
 fn more_asked(kind: u8, script: &[u8]) -> Asked
     ensures { result ≡ more_asked kind script.now }
 {
-    if kind == 2 {
-        return frame_asked(script, false);
+    match kind {
+        0x02 => frame_asked(script, false),
+        0x03 => block_in_asked(script),
+        0x04 => block_out_asked(script),
+        0x05 => Asked::Go(Going::Call(Calling::WorkDone)),
+        0x06 => Asked::Go(Going::Call(Calling::PowerOn)),
+        0x07 => Asked::Go(Going::Look(Looking::Card)),
+        0x08 => memory_asked(script),
+        0x09 => lend_asked(script),
+        0x0A => poke_asked(script),
+        0x0B => write_frame_asked(script),
+        0x0C => write_block_asked(script),
+        0x0D => check_asked(script),
+        0x0E => frame_asked(script, true),
+        0x0F => Asked::Go(Going::Look(Looking::Mode)),
+        _ => Asked::Stop(Stop::BadKind),
     }
-    if kind == 3 {
-        let n = two(script, 1);
-        return counted_asked(script, 0, Asked::Go(Going::Call(Calling::BlockIn(n))));
-    }
-    if kind == 4 {
-        return block_out_asked(script);
-    }
-    if kind == 5 {
-        return Asked::Go(Going::Call(Calling::WorkDone));
-    }
-    if kind == 6 {
-        return Asked::Go(Going::Call(Calling::PowerOn));
-    }
-    if kind == 7 {
-        return Asked::Go(Going::Look(Looking::Card));
-    }
-    shown_asked(kind, script)
-}
-
-// The kinds from 08 to 0D.
-fn shown_asked(kind: u8, script: &[u8]) -> Asked
-    ensures { result ≡ shown_asked kind script.now }
-{
-    if kind == 8 {
-        return memory_asked(script);
-    }
-    if kind == 9 {
-        return lend_asked(script);
-    }
-    if kind == 10 {
-        return poke_asked(script);
-    }
-    if kind == 11 {
-        return write_frame_asked(script);
-    }
-    if kind == 12 {
-        return write_block_asked(script);
-    }
-    if kind == 13 {
-        let n = two(script, 1);
-        return counted_asked(script, 0, Asked::Go(Going::Wire(Wiring::Check(n))));
-    }
-    spi_asked(kind, script)
-}
-
-// The kinds from 0E on.
-fn spi_asked(kind: u8, script: &[u8]) -> Asked
-    ensures { result ≡ spi_asked kind script.now }
-{
-    if kind == 14 {
-        return frame_asked(script, true);
-    }
-    if kind == 15 {
-        return Asked::Go(Going::Look(Looking::Mode));
-    }
-    Asked::Stop(Stop::BadKind)
 }
 
 // A record, with whether a card was made before it.
+#[tactic(auto, unfolding(crate::specs::Reading::asked_of))]
 pub fn read(made: bool, script: &[u8]) -> Asked
     ensures answer { result ≡ asked_of made script.now }
 {
-    if script.len() == 0 {
-        return Asked::More;
+    match script.first() {
+        None => Asked::More,
+        Some(kind) if made => more_asked(*kind, script),
+        Some(0x01) => make_asked(script),
+        Some(_) => Asked::Stop(Stop::NoCard),
     }
-    let kind = byte(script, 0);
-    if made {
-        return more_asked(kind, script);
-    }
-    if kind != 1 {
-        return Asked::Stop(Stop::NoCard);
-    }
-    make_asked(script)
 }
