@@ -24,17 +24,26 @@ pub fn two(script: &[u8], at: usize) -> u16
     u16::from_be_bytes([byte(script, at), further(script, at, 1)])
 }
 
-#[tactic(auto, unfolding(crate::specs::Reading::three))]
+#[tactic(auto, unfolding(crate::specs::Reading::two, crate::specs::Reading::three))]
 pub fn three(script: &[u8], at: usize) -> u32
     ensures answer { result ≡ three script.now at }
 {
-    (two(script, at) as u32) * 256 + (further(script, at, 2) as u32)
+    u32::from_be_bytes([
+        0,
+        byte(script, at),
+        further(script, at, 1),
+        further(script, at, 2),
+    ])
 }
 
-#[tactic(auto, unfolding(crate::specs::Reading::four))]
+#[tactic(auto, unfolding(crate::specs::Reading::two, crate::specs::Reading::four))]
 pub fn four(script: &[u8], at: usize) -> u32
     ensures answer { result ≡ four script.now at }
 {
-    let high = (two(script, at) as u32) * 65536;
-    high + (further(script, at, 2) as u32) * 256 + (further(script, at, 3) as u32)
+    u32::from_be_bytes([
+        byte(script, at),
+        further(script, at, 1),
+        further(script, at, 2),
+        further(script, at, 3),
+    ])
 }
