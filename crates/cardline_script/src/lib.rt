@@ -1,7 +1,7 @@
 // A script of `cardline`: a row of records, each a byte of kind and a body. What the record at the
 // front of what is left of a script asks for, and whether all of it is there.
 //
-// Offers: `Sizes`, `Stop`, `Making`, `Calling`, `Looking`, `Wiring`, `Going`, `Asked`; `read`, `used`;
+// Offers: `Sizes`, `Stop`, `Making`, `Calling`, `Looking`, `Wiring`, `Going`, `Asked`, `Halt`; `read`, `used`;
 // and `numbers::four`.
 #![tactic(auto)]
 
@@ -79,27 +79,33 @@ pub enum Going {
     Wire(Wiring),
 }
 
-// What a record asks for: more bytes, where it is not whole yet.
+// What a record asks for.
 #[derive(Clone, Copy)]
 pub enum Asked {
-    More,
-    Stop(Stop),
     Make(Making),
     Go(Going),
 }
 
+// Why a record is not carried out: more bytes are wanted, where it is not whole yet, or the script goes
+// no further.
+#[derive(Clone, Copy)]
+pub enum Halt {
+    More,
+    Stop(Stop),
+}
+
 // A record of a script whose card is made.
 #[tactic(auto, unfolding(crate::specs::Reading::more_asked, crate::specs::Reading::shown_asked, crate::specs::Reading::spi_asked))]
-fn more_asked(kind: u8, script: &[u8]) -> Asked
+fn more_asked(kind: u8, script: &[u8]) -> Result<Asked, Halt>
     ensures { result ≡ more_asked kind script.now }
 {
     match kind {
         0x02 => frame_asked(script, false),
         0x03 => block_in_asked(script),
         0x04 => block_out_asked(script),
-        0x05 => Asked::Go(Going::Call(Calling::WorkDone)),
-        0x06 => Asked::Go(Going::Call(Calling::PowerOn)),
-        0x07 => Asked::Go(Going::Look(Looking::Card)),
+        0x05 => Ok(Asked::Go(Going::Call(Calling::WorkDone))),
+        0x06 => Ok(Asked::Go(Going::Call(Calling::PowerOn))),
+        0x07 => Ok(Asked::Go(Going::Look(Looking::Card))),
         0x08 => memory_asked(script),
         0x09 => lend_asked(script),
         0x0A => poke_asked(script),
@@ -107,20 +113,20 @@ fn more_asked(kind: u8, script: &[u8]) -> Asked
         0x0C => write_block_asked(script),
         0x0D => check_asked(script),
         0x0E => frame_asked(script, true),
-        0x0F => Asked::Go(Going::Look(Looking::Mode)),
-        _ => Asked::Stop(Stop::BadKind),
+        0x0F => Ok(Asked::Go(Going::Look(Looking::Mode))),
+        _ => Err(Halt::Stop(Stop::BadKind)),
     }
 }
 
 // A record, with whether a card was made before it.
 #[tactic(auto, unfolding(crate::specs::Reading::asked_of))]
-pub fn read(made: bool, script: &[u8]) -> Asked
+pub fn read(made: bool, script: &[u8]) -> Result<Asked, Halt>
     ensures answer { result ≡ asked_of made script.now }
 {
     match script.first() {
-        None => Asked::More,
+        None => Err(Halt::More),
         Some(kind) if made => more_asked(*kind, script),
         Some(0x01) => make_asked(script),
-        Some(_) => Asked::Stop(Stop::NoCard),
+        Some(_) => Err(Halt::Stop(Stop::NoCard)),
     }
 }
