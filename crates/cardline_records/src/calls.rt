@@ -8,7 +8,7 @@ ghost use Rattle.store.specs.Lent.{lent_of};
 ghost use Rattle.text.specs.Writing.{Line};
 
 use crate::answers::reply_line;
-use base::{fill, least};
+use base::fill;
 use card::Call;
 use card_blocks::Stepped;
 use card_record::Card;
@@ -30,9 +30,9 @@ fn lent_step(
     ensures lent { lent_of memory.new map.new ≡ buffers_lent card lent call input.now (lent_of memory.old map.old) }
     ensures output { output.new ≡ output_lent card lent call (lent_of memory.old map.old) output.old }
 {
-    let k = least(lent.memory as usize, memory.len());
-    let j = least(lent.map as usize, map.len());
-    socket::step_in_place(card, call, input, &mut memory[0..k], &mut map[0..j], output)
+    let k = (lent.memory as usize).min(memory.len());
+    let j = (lent.map as usize).min(map.len());
+    socket::step_in_place(card, call, input, &mut memory[..k], &mut map[..j], output)
 }
 
 // What a call leaves: the next record, and the bytes of its line.
@@ -70,10 +70,7 @@ fn called_by(calling: Calling) -> Call
     ensures { result ≡ called_by calling }
 {
     match calling {
-        Calling::Frame {
-            length: _,
-            selected,
-        } => Call::Frame {
+        Calling::Frame { selected, .. } => Call::Frame {
             wins: true,
             selected,
         },
@@ -88,14 +85,9 @@ fn input_of(calling: Calling, script: &[u8]) -> &[u8]
     ensures { result.now ≡ input_of calling script.now }
 {
     match calling {
-        Calling::Frame {
-            length,
-            selected: _,
-        } => part(script, 2, length as usize),
+        Calling::Frame { length, .. } => part(script, 2, length as usize),
         Calling::BlockIn(n) => part(script, 3, n as usize),
-        Calling::BlockOut(_) => part(script, 0, 0),
-        Calling::WorkDone => part(script, 0, 0),
-        Calling::PowerOn => part(script, 0, 0),
+        Calling::BlockOut(_) | Calling::WorkDone | Calling::PowerOn => b"",
     }
 }
 
@@ -103,16 +95,10 @@ fn room_of(calling: Calling) -> usize
     ensures room { result ≡ room_of calling }
     ensures within { result < 65536 }
 {
-    match calling {
-        Calling::Frame {
-            length: _,
-            selected: _,
-        } => 0,
-        Calling::BlockIn(_) => 0,
-        Calling::BlockOut(n) => n as usize,
-        Calling::WorkDone => 0,
-        Calling::PowerOn => 0,
+    if let Calling::BlockOut(n) = calling {
+        return n as usize;
     }
+    0
 }
 
 // The call of a record at the front of a script, of a card that is lent so much of two buffers.
@@ -142,7 +128,7 @@ pub fn called(
         input,
         memory,
         map,
-        &mut space[0..n],
+        &mut space[..n],
         out,
     )
 }

@@ -15,7 +15,7 @@ use crate::make::make;
 use crate::results::{counted, ends, goes_on, left_alone, with_card, with_lent};
 use crate::{Progress, Said};
 use cardline_looks::{look_line, set_map, sizes_looked, wire_line};
-use cardline_script::{Asked, Calling, Going, Looking, Stop, used};
+use cardline_script::{Asked, Calling, Going, Halt, Looking, Stop, used};
 use playing::Then;
 use text::lines::plain;
 
@@ -31,6 +31,7 @@ fn stop_line(stop: Stop, out: &mut [u8]) -> usize
 
 // Each of these gives what is kept behind a record that takes so many bytes of a script.
 
+#[tactic(auto, unfolding(crate::specs::Record::going_text, crate::specs::Record::going_buffers, crate::specs::Record::going_progress))]
 fn call_on(
     progress: Progress,
     calling: Calling,
@@ -57,6 +58,7 @@ fn call_on(
     goes_on(with_card(progress, after.card), used, after.wrote)
 }
 
+#[tactic(auto, unfolding(crate::specs::Record::going_text, crate::specs::Record::going_buffers, crate::specs::Record::going_progress))]
 fn look_on(
     progress: Progress,
     looking: Looking,
@@ -86,6 +88,7 @@ fn look_on(
     goes_on(with_lent(progress, lent), used, wrote)
 }
 
+#[tactic(auto, unfolding(crate::specs::Record::going_text, crate::specs::Record::going_buffers, crate::specs::Record::going_progress))]
 fn carry(
     progress: Progress,
     going: Going,
@@ -109,9 +112,10 @@ fn carry(
     }
 }
 
+#[tactic(auto, unfolding(crate::specs::Record::asked_said, crate::specs::Record::asked_buffers, crate::specs::Record::asked_text))]
 pub fn obey(
     progress: Progress,
-    asked: Asked,
+    asked: Result<Asked, Halt>,
     script: &[u8],
     memory: &mut [u8],
     map: &mut [u8],
@@ -122,12 +126,12 @@ pub fn obey(
     ensures line { Line roomy out.old out.new result.wrote (asked_text progress asked script.now (lent_of memory.old map.old)) }
 {
     match asked {
-        Asked::More => left_alone(progress, Then::Waits),
-        Asked::Stop(stop) => {
+        Err(Halt::More) => left_alone(progress, Then::Waits),
+        Err(Halt::Stop(stop)) => {
             let wrote = stop_line(stop, out);
             ends(progress, wrote)
         }
-        Asked::Make(making) => make(progress, making, script, memory, map, out),
-        Asked::Go(going) => carry(counted(progress), going, script, memory, map, out),
+        Ok(Asked::Make(making)) => make(progress, making, script, memory, map, out),
+        Ok(Asked::Go(going)) => carry(counted(progress), going, script, memory, map, out),
     }
 }

@@ -53,6 +53,7 @@ pub struct Said {
 }
 
 // Before a script: no card, for which the record of a refused make stands, and nothing lent.
+#[tactic(auto, unfolding(crate::specs::Progress::fresh_progress))]
 pub fn fresh() -> Progress
     ensures answer { result ≡ fresh_progress }
 {
@@ -66,6 +67,7 @@ pub fn fresh() -> Progress
 }
 
 // The record at the front of what is left of a script.
+#[tactic(auto, unfolding(crate::specs::Record::said_of, crate::specs::Record::buffers_after, crate::specs::Record::text_of))]
 pub fn carry_out(
     progress: Progress,
     script: &[u8],

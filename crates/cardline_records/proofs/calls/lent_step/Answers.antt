@@ -7,19 +7,19 @@ pub returns-clause-answer : goal.returns-clause-answer
 returns-clause-answer c =
     let a = c.args in
     let s = c.step_in_place in
-    stepped_answer a.card a.lent a.call a.input.now a.memory.now a.map.now a.output.now _ _ c.least-k.ensures.answer c.least-j.ensures.answer
+    stepped_answer a.card a.lent a.call a.input.now a.memory.now a.map.now a.output.now _ _ c.min-k.ensures c.min-j.ensures
     s.result s.ensures.answer
 
 pub returns-clause-lent : goal.returns-clause-lent
 returns-clause-lent c =
     let a = c.args in
     let s = c.step_in_place in
-    stepped_lent a.card a.lent a.call a.input.now a.memory.now a.map.now a.output.now _ _ c.least-k.ensures.answer c.least-j.ensures.answer
+    stepped_lent a.card a.lent a.call a.input.now a.memory.now a.map.now a.output.now _ _ c.min-k.ensures c.min-j.ensures
     s.new.memory s.new.map s.ensures.lent
 
 pub returns-clause-output : goal.returns-clause-output
 returns-clause-output c =
     let a = c.args in
     let s = c.step_in_place in
-    stepped_output a.card a.lent a.call a.input.now a.memory.now a.map.now a.output.now _ _ c.least-k.ensures.answer c.least-j.ensures.answer
+    stepped_output a.card a.lent a.call a.input.now a.memory.now a.map.now a.output.now _ _ c.min-k.ensures c.min-j.ensures
     s.new.out s.ensures.output
