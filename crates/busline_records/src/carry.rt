@@ -2,7 +2,7 @@
 ghost use Rattle.std.specs.Prelude.{◌≡◌, ◌≤◌, length};
 ghost use Rattle.busline_records.specs.Cards.{card_made};
 ghost use Rattle.busline_records.specs.Printing.{bad_kind_text, roomy};
-ghost use Rattle.busline_records.specs.Record.{following, stopped_by, put_off, card_text, card_said, frame_text, frame_said, asked_text, asked_said};
+ghost use Rattle.busline_records.specs.Record.{stopped_by, put_off, card_text, card_said, frame_text, frame_said, asked_text, asked_said};
 ghost use Rattle.text.specs.Writing.{Wrote};
 
 use crate::print::{added_line, bad_kind_line, shown_line};
@@ -12,16 +12,6 @@ use card_record::Card;
 use playing::Then;
 use text::parts::part;
 
-// The number of the next frame. Where a 64-bit number has no next it stays.
-fn next(count: u64) -> u64
-    ensures { result ≡ following count }
-{
-    if count < 18446744073709551615 {
-        return count + 1;
-    }
-    count
-}
-
 // A record that has to wait.
 pub fn put_off(progress: Progress, then: Then) -> Said
     ensures { result ≡ put_off progress then }
@@ -30,6 +20,7 @@ pub fn put_off(progress: Progress, then: Then) -> Said
 }
 
 // The card of a record of kind 01: lent one erased memory and a map of one entry.
+#[tactic(auto, unfolding(crate::specs::Cards::made_with, crate::specs::Cards::card_made))]
 fn card_of(script: &[u8]) -> Card
     ensures { result ≡ card_made script.now }
 {
@@ -58,8 +49,7 @@ fn added(progress: Progress, script: &[u8], out: &mut [u8]) -> Said
     ensures short { result.wrote ≤ roomy }
 {
     let card = card_of(script);
-    let bus = progress.bus;
-    let given = bus::add(bus, card);
+    let given = bus::add(progress.bus, card);
     let adding = given.adding;
     let next = given.bus;
     let wrote = added_line(adding, out);
@@ -75,16 +65,15 @@ fn added(progress: Progress, script: &[u8], out: &mut [u8]) -> Said
 }
 
 // A refused frame counts as any other does.
+#[tactic(auto, unfolding(crate::specs::Record::frame_text, crate::specs::Record::frame_said))]
 fn framed(progress: Progress, script: &[u8], out: &mut [u8]) -> Said
     requires { roomy ≤ length out.old }
     ensures answer { result ≡ frame_said progress script.now }
     ensures text { Wrote out.old out.new 0 result.wrote (frame_text progress script.now) }
     ensures short { result.wrote ≤ roomy }
 {
-    let count = next(progress.count);
-    let frame = part(script, 1, 6);
-    let bus = progress.bus;
-    let given = bus::frame(bus, frame);
+    let count = progress.count.saturating_add(1);
+    let given = bus::frame(progress.bus, part(script, 1, 6));
     let shown = given.shown;
     let line = given.line;
     let next = given.bus;
@@ -97,6 +86,7 @@ fn framed(progress: Progress, script: &[u8], out: &mut [u8]) -> Said
     }
 }
 
+#[tactic(auto, unfolding(crate::specs::Record::asked_text, crate::specs::Record::asked_said))]
 pub fn carry(progress: Progress, asked: Asked, script: &[u8], out: &mut [u8]) -> Said
     requires { roomy ≤ length out.old }
     ensures answer { result ≡ asked_said progress asked script.now }

@@ -57,6 +57,7 @@ pub struct Said {
 }
 
 // Before a script: a bus of no cards, and no frame yet.
+#[tactic(auto, unfolding(crate::specs::Record::fresh_progress))]
 pub fn fresh() -> Progress
     ensures answer { result ≡ fresh_progress }
 {
@@ -67,6 +68,7 @@ pub fn fresh() -> Progress
 }
 
 // The record at the front of what is left of a script.
+#[tactic(auto, unfolding(crate::specs::Record::text_of, crate::specs::Record::said_of))]
 pub fn carry_out(progress: Progress, script: &[u8], out: &mut [u8]) -> Said
     ensures answer { result ≡ said_of progress script.now (length out.old) }
     ensures text { out.new ≡ text_of progress script.now (length out.old) ++ drop result.wrote out.old }
@@ -98,23 +100,18 @@ pub fn play(progress: Progress, script: &[u8], out: &mut [u8]) -> Said
 {
     let lines = out.len() / ROOMY;
     let mut kept = progress;
-    let mut used: usize = 0;
-    let mut wrote: usize = 0;
-    let mut i: usize = 0;
-    while i < lines {
+    let mut used = 0;
+    let mut wrote = 0;
+    for i in 0..lines {
         let said = turn(kept, script, used, out, wrote);
-        let then = said.then;
         kept = said.progress;
         wrote += said.wrote;
-        match then {
-            Then::Goes => {
-                used += said.used;
-            }
+        match said.then {
+            Then::Goes => used += said.used,
             Then::Stops => return left(kept, script.len(), wrote, Then::Stops),
             Then::Waits => return left(kept, used, wrote, Then::Waits),
             Then::NoRoom => return left(kept, used, wrote, Then::NoRoom),
         }
-        i += 1;
     }
     left(kept, used, wrote, Then::NoRoom)
 }
