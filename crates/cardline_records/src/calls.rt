@@ -4,9 +4,10 @@
 ghost use Rattle.std.specs.Prelude.{◌≡◌, ◌<◌, max, length};
 ghost use Rattle.cardline_looks.specs.Lines.{line_room, roomy};
 ghost use Rattle.cardline_records.specs.Calls.{step_lent, buffers_lent, output_lent, call_text, called_by, input_of, room_of};
-ghost use Rattle.store.specs.Lent.{lent_of};
+ghost use Rattle.cardline_records.specs.Buffers.{held, Leaves};
 ghost use Rattle.text.specs.Writing.{Line};
 
+use crate::Buffers;
 use crate::answers::reply_line;
 use base::fill;
 use card::Call;
@@ -22,17 +23,17 @@ fn lent_step(
     lent: Sizes,
     call: Call,
     input: &[u8],
-    memory: &mut [u8],
-    map: &mut [u8],
+    buffers: &mut Buffers,
     output: &mut [u8],
 ) -> Stepped
-    ensures answer { result ≡ step_lent card lent call input.now (lent_of memory.old map.old) (length output.old) }
-    ensures lent { lent_of memory.new map.new ≡ buffers_lent card lent call input.now (lent_of memory.old map.old) }
-    ensures output { output.new ≡ output_lent card lent call (lent_of memory.old map.old) output.old }
+    ensures answer { result ≡ step_lent card lent call input.now (held buffers.old) (length output.old) }
+    ensures lent { Leaves buffers.old buffers.new (buffers_lent card lent call input.now (held buffers.old)) }
+    ensures output { output.new ≡ output_lent card lent call (held buffers.old) output.old }
 {
-    let k = (lent.memory as usize).min(memory.len());
-    let j = (lent.map as usize).min(map.len());
-    socket::step_in_place(card, call, input, &mut memory[..k], &mut map[..j], output)
+    let k = (lent.memory as usize).min(buffers.memory.len());
+    let j = (lent.map as usize).min(buffers.map.len());
+    let (memory, map) = (&mut buffers.memory[..k], &mut buffers.map[..j]);
+    socket::step_in_place(card, call, input, memory, map, output)
 }
 
 // What a call leaves: the next record, and the bytes of its line.
@@ -49,17 +50,16 @@ fn call_into(
     lent: Sizes,
     call: Call,
     input: &[u8],
-    memory: &mut [u8],
-    map: &mut [u8],
+    buffers: &mut Buffers,
     output: &mut [u8],
     out: &mut [u8],
 ) -> Left
-    ensures record { result.card ≡ (step_lent card lent call input.now (lent_of memory.old map.old) (length output.old)).card }
-    ensures lent { lent_of memory.new map.new ≡ buffers_lent card lent call input.now (lent_of memory.old map.old) }
-    ensures line { Line (line_room 20 (max 17 (length output.old))) out.old out.new result.wrote (call_text count card lent call input.now (lent_of memory.old map.old) (length output.old)) }
+    ensures record { result.card ≡ (step_lent card lent call input.now (held buffers.old) (length output.old)).card }
+    ensures lent { Leaves buffers.old buffers.new (buffers_lent card lent call input.now (held buffers.old)) }
+    ensures line { Line (line_room 20 (max 17 (length output.old))) out.old out.new result.wrote (call_text count card lent call input.now (held buffers.old) (length output.old)) }
 {
     fill(output, 0xA5);
-    let stepped = lent_step(card, lent, call, input, memory, map, output);
+    let stepped = lent_step(card, lent, call, input, buffers, output);
     let reply = stepped.reply;
     let wrote = reply_line(count, call, card.registers, reply, output, out);
     let next = stepped.card;
@@ -108,13 +108,12 @@ pub fn called(
     lent: Sizes,
     calling: Calling,
     script: &[u8],
-    memory: &mut [u8],
-    map: &mut [u8],
+    buffers: &mut Buffers,
     out: &mut [u8],
 ) -> Left
-    ensures record { result.card ≡ (step_lent card lent (called_by calling) (input_of calling script.now) (lent_of memory.old map.old) (room_of calling)).card }
-    ensures lent { lent_of memory.new map.new ≡ buffers_lent card lent (called_by calling) (input_of calling script.now) (lent_of memory.old map.old) }
-    ensures line { Line roomy out.old out.new result.wrote (call_text count card lent (called_by calling) (input_of calling script.now) (lent_of memory.old map.old) (room_of calling)) }
+    ensures record { result.card ≡ (step_lent card lent (called_by calling) (input_of calling script.now) (held buffers.old) (room_of calling)).card }
+    ensures lent { Leaves buffers.old buffers.new (buffers_lent card lent (called_by calling) (input_of calling script.now) (held buffers.old)) }
+    ensures line { Line roomy out.old out.new result.wrote (call_text count card lent (called_by calling) (input_of calling script.now) (held buffers.old) (room_of calling)) }
 {
     let call = called_by(calling);
     let input = input_of(calling, script);
@@ -126,8 +125,7 @@ pub fn called(
         lent,
         call,
         input,
-        memory,
-        map,
+        buffers,
         &mut space[..n],
         out,
     )

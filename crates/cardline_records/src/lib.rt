@@ -31,6 +31,13 @@ use playing::Then;
 use results::left_alone;
 use text::lines::plain;
 
+// The two buffers of a script, of which a card's memory and map are the first bytes.
+#[derive(Drop)]
+struct Buffers<'a> {
+    memory: &'a mut [u8],
+    map: &'a mut [u8],
+}
+
 // What is kept from record to record: the card, if one was made; the sizes of its own memory and
 // map, and of what its calls are lent; how many records were carried out since the make.
 #[derive(Clone, Copy)]
@@ -83,7 +90,7 @@ pub fn carry_out(
         return left_alone(progress, Then::NoRoom);
     }
     let asked = cardline_script::read(progress.made, script);
-    obey(progress, asked, script, memory, map, out)
+    obey(progress, asked, script, &mut Buffers { memory, map }, out)
 }
 
 // The line at the end of the input, where so many bytes are left over of it: `cut`, or none.

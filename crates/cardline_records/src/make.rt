@@ -4,11 +4,12 @@
 ghost use Rattle.std.specs.Prelude.{◌≡◌, length};
 ghost use Rattle.cardline_looks.specs.Lines.{roomy};
 ghost use Rattle.cardline_records.specs.Makes.{memory_filled, buffers_made, register_at, made_from, card_made, made_progress, make_text, make_said};
-ghost use Rattle.store.specs.Lent.{lent_of, seen_of};
+ghost use Rattle.store.specs.Lent.{seen_of};
+ghost use Rattle.cardline_records.specs.Buffers.{held, Leaves};
 ghost use Rattle.text.specs.Writing.{Line};
 
 use crate::results::{ends, goes_on};
-use crate::{Progress, Said};
+use crate::{Buffers, Progress, Said};
 use base::{copy, fill};
 use card_record::{Card, Made};
 use cardline_script::numbers::four;
@@ -48,10 +49,11 @@ fn made_of(making: Making, script: &[u8], memory: &[u8], map: &[u8]) -> Made
 
 // The memory and the map filled, and the card made that is lent them.
 #[tactic(auto, unfolding(crate::specs::Makes::card_made))]
-fn make_card(making: Making, script: &[u8], memory: &mut [u8], map: &mut [u8]) -> Made
-    ensures answer { result ≡ card_made making script.now (lent_of memory.old map.old) }
-    ensures lent { lent_of memory.new map.new ≡ buffers_made making script.now (lent_of memory.old map.old) }
+fn make_card(making: Making, script: &[u8], buffers: &mut Buffers) -> Made
+    ensures answer { result ≡ card_made making script.now (held buffers.old) }
+    ensures lent { Leaves buffers.old buffers.new (buffers_made making script.now (held buffers.old)) }
 {
+    let (memory, map) = (&mut *buffers.memory, &mut *buffers.map);
     fill_front(making.memory as usize, making.fill, memory);
     copy(part(script, 6, making.map as usize), map, 0);
     let own = part(memory, 0, making.memory as usize);
@@ -63,15 +65,14 @@ pub fn make(
     progress: Progress,
     making: Making,
     script: &[u8],
-    memory: &mut [u8],
-    map: &mut [u8],
+    buffers: &mut Buffers,
     out: &mut [u8],
 ) -> Said
-    ensures answer { result ≡ make_said progress making (card_made making script.now (lent_of memory.old map.old)).card (card_made making script.now (lent_of memory.old map.old)).making result.wrote }
-    ensures lent { lent_of memory.new map.new ≡ buffers_made making script.now (lent_of memory.old map.old) }
-    ensures line { Line roomy out.old out.new result.wrote (make_text (card_made making script.now (lent_of memory.old map.old)).making) }
+    ensures answer { result ≡ make_said progress making (card_made making script.now (held buffers.old)).card (card_made making script.now (held buffers.old)).making result.wrote }
+    ensures lent { Leaves buffers.old buffers.new (buffers_made making script.now (held buffers.old)) }
+    ensures line { Line roomy out.old out.new result.wrote (make_text (card_made making script.now (held buffers.old)).making) }
 {
-    let made = make_card(making, script, memory, map);
+    let made = make_card(making, script, buffers);
     let outcome = made.making;
     let wrote = make_line(outcome, out);
     make_said(progress, making, made, wrote)
