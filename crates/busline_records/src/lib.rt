@@ -46,15 +46,8 @@ pub struct Progress {
     pub count: u64,
 }
 
-// What a record, or a piece of a script, leaves: the bytes of the script that it took, and those of
-// its text at the front of the output; how the script goes on.
-#[derive(Clone, Copy)]
-pub struct Said {
-    pub progress: Progress,
-    pub used: usize,
-    pub wrote: usize,
-    pub then: Then,
-}
+// What a record, or a piece of a script, leaves.
+pub type Said = playing::Said<Progress>;
 
 // Before a script: a bus of no cards, and no frame yet.
 #[tactic(auto, unfolding(crate::specs::Record::fresh_progress))]

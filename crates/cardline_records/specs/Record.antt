@@ -17,7 +17,7 @@ use Rattle.cardline_script.specs.declared.Asked.TheVariants.{Make, Go}
 use Rattle.cardline_script.specs.declared.Going.{Going}
 use Rattle.cardline_script.specs.declared.Going.TheVariants.{Call, Look, Wire}
 use Rattle.cardline_script.specs.declared.Halt.TheVariants as halt
-use Rattle.cardline_records.specs.declared.Said.{Said}
+use Rattle.playing.specs.declared.Said.{Said}
 use Rattle.cardline_script.specs.declared.Stop.{Stop}
 use Rattle.cardline_script.specs.declared.Stop.TheVariants.{NoCard, BadKind, TooBig}
 use Rattle.cardline_records.specs.declared.Progress.{Progress}
@@ -62,7 +62,7 @@ asked_buffers w (Ok (Make making)) s buffers = buffers_made making s buffers
 asked_buffers w (Ok (Go going)) s buffers = going_buffers (record_counted w) going s buffers
 
 -- what is kept, how much of the script was used, and how the script goes on, where the line has so many bytes
-unfoldable pub asked_said : Progress → Read → List ℕ → Lent → ℕ → Said
+unfoldable pub asked_said : Progress → Read → List ℕ → Lent → ℕ → Said Progress
 asked_said w (Err halt.More) s buffers wrote = untouched w Waits
 asked_said w (Err (halt.Stop stop)) s buffers wrote = ended w wrote
 asked_said w (Ok (Make making)) s buffers wrote = make_said w making (card_made making s buffers).card (card_made making s buffers).making wrote
@@ -75,7 +75,7 @@ text_of w s buffers room = unless (leb roomy room) [] (asked_text w (asked_of w.
 unfoldable pub buffers_after : Progress → List ℕ → Lent → ℕ → Lent
 buffers_after w s buffers room = unless (leb roomy room) buffers (asked_buffers w (asked_of w.made s) s buffers)
 
-unfoldable pub said_of : Progress → List ℕ → Lent → ℕ → Said
+unfoldable pub said_of : Progress → List ℕ → Lent → ℕ → Said Progress
 said_of w s buffers room =
     unless (leb roomy room) (untouched w NoRoom)
     (asked_said w (asked_of w.made s) s buffers (length (asked_text w (asked_of w.made s) s buffers)))

@@ -49,15 +49,8 @@ pub struct Progress {
     pub count: u64,
 }
 
-// What a record leaves: the bytes of the script that it took, and those of its line at the front of
-// the output; how the script goes on.
-#[derive(Clone, Copy)]
-pub struct Said {
-    pub progress: Progress,
-    pub used: usize,
-    pub wrote: usize,
-    pub then: Then,
-}
+// What a record leaves.
+pub type Said = playing::Said<Progress>;
 
 // Before a script: no card, for which the record of a refused make stands, and nothing lent.
 #[tactic(auto, unfolding(crate::specs::Progress::fresh_progress))]
