@@ -1,6 +1,6 @@
 // The records by kind: what each asks for.
-ghost use Rattle.std.specs.Prelude.{◌≡◌, ◌<◌, ◌≤◌, IfOk, IfErr, length};
-ghost use Rattle.cardline_script.specs.Reading.{make_asked, frame_asked, counted_asked, block_in_asked, block_out_asked, memory_asked, lend_asked, poke_asked, write_frame_asked, write_block_asked, check_asked};
+ghost use Rattle.std.specs.Prelude.{◌≡◌, ◌+◌, ◌<◌, ◌≤◌, IfOk, IfErr, length};
+ghost use Rattle.cardline_script.specs.Reading.{Read, two, make_asked, frame_asked, counted_asked, block_in_asked, block_out_asked, memory_asked, lend_asked, poke_asked, write_frame_asked, write_block_asked, check_asked};
 
 use crate::numbers::{byte, four, three, two};
 use crate::{Asked, Calling, Going, Halt, Looking, Making, Sizes, Stop, Wiring};
@@ -64,14 +64,24 @@ pub fn frame_asked(script: &[u8], selected: bool) -> Result<Asked, Halt>
     Ok(Asked::Go(Going::Call(Calling::Frame { length, selected })))
 }
 
+// A length of two bytes, where as many bytes are there and so many more.
 #[tactic(auto, unfolding(crate::specs::Reading::counted_asked))]
-pub fn block_in_asked(script: &[u8]) -> Result<Asked, Halt>
-    ensures { result ≡ block_in_asked script.now }
+fn counted(script: &[u8], more: u8) -> Result<u16, Halt>
+    ensures whole { IfOk result (λ n. (n ≡ two script.now 1) × (3 ≤ length script.now) × (n ≤ 4096) × (n + 3 + more ≤ length script.now)) }
+    ensures stops { IfErr result (λ halt. (then : Read) → counted_asked script.now more then ≡ Err halt) }
 {
     complete(3, script)?;
     let n = two(script, 1);
     within(BLOCK, u32::from(n))?;
-    complete(n as usize + 3, script)?;
+    complete(n as usize + 3 + more as usize, script)?;
+    Ok(n)
+}
+
+#[tactic(auto, unfolding(crate::specs::Reading::counted_asked))]
+pub fn block_in_asked(script: &[u8]) -> Result<Asked, Halt>
+    ensures { result ≡ block_in_asked script.now }
+{
+    let n = counted(script, 0)?;
     Ok(Asked::Go(Going::Call(Calling::BlockIn(n))))
 }
 
@@ -134,10 +144,7 @@ pub fn write_frame_asked(script: &[u8]) -> Result<Asked, Halt>
 pub fn write_block_asked(script: &[u8]) -> Result<Asked, Halt>
     ensures { result ≡ write_block_asked script.now }
 {
-    complete(3, script)?;
-    let length = two(script, 1);
-    within(BLOCK, u32::from(length))?;
-    complete(length as usize + 5, script)?;
+    let length = counted(script, 2)?;
     let room = two(script, length as usize + 3);
     within(BLOCK, u32::from(room))?;
     Ok(Asked::Go(Going::Wire(Wiring::Block { length, room })))
@@ -147,9 +154,6 @@ pub fn write_block_asked(script: &[u8]) -> Result<Asked, Halt>
 pub fn check_asked(script: &[u8]) -> Result<Asked, Halt>
     ensures { result ≡ check_asked script.now }
 {
-    complete(3, script)?;
-    let n = two(script, 1);
-    within(BLOCK, u32::from(n))?;
-    complete(n as usize + 3, script)?;
+    let n = counted(script, 0)?;
     Ok(Asked::Go(Going::Wire(Wiring::Check(n))))
 }
