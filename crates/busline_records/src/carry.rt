@@ -1,5 +1,5 @@
 // What a record asks for, carried out.
-ghost use Rattle.std.specs.Prelude.{◌≡◌, ◌≤◌, length};
+ghost use Rattle.std.specs.Prelude.{◌≡◌, ◌≤◌};
 ghost use Rattle.busline_records.specs.Cards.{card_made};
 ghost use Rattle.busline_records.specs.Printing.{bad_kind_text, roomy};
 ghost use Rattle.busline_records.specs.Record.{stopped_by, put_off, card_text, card_said, frame_text, frame_said, asked_text, asked_said};
@@ -7,7 +7,7 @@ ghost use Rattle.text.specs.Writing.{Wrote};
 
 use crate::print::{added_line, bad_kind_line, shown_line};
 use crate::reading::identifier;
-use crate::{Asked, Progress, Said, left};
+use crate::{Asked, Progress, ROOMY, Said, left};
 use card_record::Card;
 use playing::Then;
 use text::parts::part;
@@ -32,8 +32,7 @@ fn card_of(script: &[u8]) -> Card
     made.card
 }
 
-fn stopped(progress: Progress, out: &mut [u8]) -> Said
-    requires { roomy ≤ length out.old }
+fn stopped(progress: Progress, out: &mut [u8; ROOMY]) -> Said
     ensures answer { result ≡ stopped_by progress bad_kind_text }
     ensures text { Wrote out.old out.new 0 result.wrote bad_kind_text }
     ensures short { result.wrote ≤ roomy }
@@ -42,8 +41,7 @@ fn stopped(progress: Progress, out: &mut [u8]) -> Said
     left(progress, 0, wrote, Then::Stops)
 }
 
-fn added(progress: Progress, script: &[u8], out: &mut [u8]) -> Said
-    requires { roomy ≤ length out.old }
+fn added(progress: Progress, script: &[u8], out: &mut [u8; ROOMY]) -> Said
     ensures answer { result ≡ card_said progress script.now }
     ensures text { Wrote out.old out.new 0 result.wrote (card_text progress script.now) }
     ensures short { result.wrote ≤ roomy }
@@ -66,8 +64,7 @@ fn added(progress: Progress, script: &[u8], out: &mut [u8]) -> Said
 
 // A refused frame counts as any other does.
 #[tactic(auto, unfolding(crate::specs::Record::frame_text, crate::specs::Record::frame_said))]
-fn framed(progress: Progress, script: &[u8], out: &mut [u8]) -> Said
-    requires { roomy ≤ length out.old }
+fn framed(progress: Progress, script: &[u8], out: &mut [u8; ROOMY]) -> Said
     ensures answer { result ≡ frame_said progress script.now }
     ensures text { Wrote out.old out.new 0 result.wrote (frame_text progress script.now) }
     ensures short { result.wrote ≤ roomy }
@@ -87,8 +84,7 @@ fn framed(progress: Progress, script: &[u8], out: &mut [u8]) -> Said
 }
 
 #[tactic(auto, unfolding(crate::specs::Record::asked_text, crate::specs::Record::asked_said))]
-pub fn carry(progress: Progress, asked: Asked, script: &[u8], out: &mut [u8]) -> Said
-    requires { roomy ≤ length out.old }
+pub fn carry(progress: Progress, asked: Asked, script: &[u8], out: &mut [u8; ROOMY]) -> Said
     ensures answer { result ≡ asked_said progress asked script.now }
     ensures text { Wrote out.old out.new 0 result.wrote (asked_text progress asked script.now) }
     ensures short { result.wrote ≤ roomy }

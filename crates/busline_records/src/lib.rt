@@ -67,11 +67,10 @@ pub fn carry_out(progress: Progress, script: &[u8], out: &mut [u8]) -> Said
     ensures text { out.new ≡ text_of progress script.now (length out.old) ++ drop result.wrote out.old }
     ensures short { result.wrote ≤ roomy }
 {
-    if out.len() < ROOMY {
+    let Some(line) = out.first_chunk_mut::<ROOMY>() else {
         return put_off(progress, Then::NoRoom);
-    }
-    let asked = read(script);
-    carry(progress, asked, script, out)
+    };
+    carry(progress, read(script), script, line)
 }
 
 // The record from a place of a script on, its line written from a place of the output on.
