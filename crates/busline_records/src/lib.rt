@@ -31,6 +31,7 @@ const ROOMY: usize = 64;
 
 // What a record asks for: a card with the identifier in its body, a frame, nothing that is known, or
 // more bytes than there are.
+// Not a `Result`: it would take a second enum for the last two, for the one `match` in `carry`.
 #[derive(Clone, Copy)]
 pub enum Asked {
     Card,

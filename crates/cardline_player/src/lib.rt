@@ -17,6 +17,8 @@ use cardline_records::{Progress, Said};
 use playing::{Then, keep};
 use text::parts::part;
 
+// `from` and `to` stand apart, and are no range: `turned_by` and the laws of a turn speak of each.
+
 // What a turn leaves: the bytes of the buffer that are at hand, from one place to another; those of
 // the line at the front of the output; how the script goes on.
 #[derive(Clone, Copy)]

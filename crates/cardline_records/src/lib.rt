@@ -42,6 +42,7 @@ struct Buffers<'a> {
 // map, and of what its calls are lent; how many records were carried out since the make.
 #[derive(Clone, Copy)]
 pub struct Progress {
+    // Not an `Option`: `fresh_progress` and the laws of a record name a card whatever `made` says, that of a refused make.
     pub card: Card,
     pub made: bool,
     pub own: Sizes,
