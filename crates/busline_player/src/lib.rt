@@ -36,12 +36,10 @@ pub fn advance(progress: Progress, buffer: &mut [u8], kept: usize, out: &mut [u8
     let script = part(buffer, 0, kept);
     let said = busline_records::play(progress, script, out);
     let left = keep(buffer, said.used, kept);
-    let next = said.progress;
-    let then = said.then;
     Turned {
-        progress: next,
+        progress: said.progress,
         kept: left,
         wrote: said.wrote,
-        then,
+        then: said.then,
     }
 }

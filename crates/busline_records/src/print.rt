@@ -18,7 +18,7 @@ pub fn bad_kind_line(out: &mut [u8]) -> usize
 pub fn cut(rest: &[u8], out: &mut [u8]) -> usize
     ensures { Put out.old out.new 0 result (cut_text rest.now) }
 {
-    if rest.len() == 0 {
+    if rest.is_empty() {
         return 0;
     }
     plain(b"cut", out)

@@ -1,3 +1,4 @@
+pub mod Buffers
 pub mod Calls
 pub mod Makes
 pub mod Progress

@@ -9,7 +9,7 @@ use Rattle.cardline_script.specs.Reading.{four}
 use Rattle.cardline_records.specs.Words.{made_word}
 use Rattle.cardline_records.specs.Progress.{gone_on, ended}
 use Rattle.cardline_script.specs.declared.Making.{Making}
-use Rattle.cardline_records.specs.declared.Said.{Said}
+use Rattle.playing.specs.declared.Said.{Said}
 use Rattle.cardline_script.specs.declared.Sizes.{Sizes}
 use Rattle.cardline_records.specs.declared.Progress.{Progress}
 use Rattle.card_record.specs.Making.{made_of}
@@ -57,6 +57,6 @@ make_text (Ok tt) = plain_line made_word
 make_text (Err refusal) = refusal_line refusal
 
 -- "A refused make prints `refused R` and stops". `wrote` is the length of its line
-abbrev pub make_said : Progress → Making → Card → Result Unit Refusal → ℕ → Said
+abbrev pub make_said : Progress → Making → Card → Result Unit Refusal → ℕ → Said Progress
 make_said w m card (Ok tt) wrote = gone_on (made_progress m card) (m.map + 43 + m.password) wrote
 make_said w m card (Err refusal) wrote = ended w wrote

@@ -14,10 +14,11 @@ use cardline_looks::lines::{refused, say_number};
 use text::lines::{ending, head, number, put, say};
 use text::parts::part;
 
+#[tactic(auto, unfolding(crate::specs::Calls::shown_text))]
 fn shown(count: u64, bytes: &[u8], out: &mut [u8]) -> usize
     ensures { Put out.old out.new 0 result (shown_text count bytes.now) }
 {
-    if bytes.len() == 0 {
+    if bytes.is_empty() {
         return say(count, b"silent", b"", out);
     }
     say(count, b"line", bytes, out)
@@ -39,7 +40,7 @@ fn sent_line(count: u64, registers: Registers, sent: Sent, out: &mut [u8]) -> us
 fn beside(word: &[u8], bytes: &[u8], out: &mut [u8], at: usize) -> usize
     ensures { Put out.old out.new at result (beside_text word.now bytes.now) }
 {
-    if bytes.len() == 0 {
+    if bytes.is_empty() {
         return put(b"\n", out, at);
     }
     let a = put(b" ", out, at);
@@ -135,10 +136,7 @@ pub fn reply_line(
 {
     let outcome = reply.outcome;
     match call {
-        Call::Frame {
-            wins: _,
-            selected: _,
-        } => frame_line(count, registers, reply, out),
+        Call::Frame { .. } => frame_line(count, registers, reply, out),
         Call::BlockIn => taken_line(count, registers, reply, out),
         Call::BlockOut => block_line(count, outcome, output, out),
         Call::WorkDone => say(count, b"done", b"", out),

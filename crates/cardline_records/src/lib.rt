@@ -31,10 +31,18 @@ use playing::Then;
 use results::left_alone;
 use text::lines::plain;
 
+// The two buffers of a script, of which a card's memory and map are the first bytes.
+#[derive(Drop)]
+struct Buffers<'a> {
+    memory: &'a mut [u8],
+    map: &'a mut [u8],
+}
+
 // What is kept from record to record: the card, if one was made; the sizes of its own memory and
 // map, and of what its calls are lent; how many records were carried out since the make.
 #[derive(Clone, Copy)]
 pub struct Progress {
+    // Not an `Option`: `fresh_progress` and the laws of a record name a card whatever `made` says, that of a refused make.
     pub card: Card,
     pub made: bool,
     pub own: Sizes,
@@ -42,17 +50,11 @@ pub struct Progress {
     pub count: u64,
 }
 
-// What a record leaves: the bytes of the script that it took, and those of its line at the front of
-// the output; how the script goes on.
-#[derive(Clone, Copy)]
-pub struct Said {
-    pub progress: Progress,
-    pub used: usize,
-    pub wrote: usize,
-    pub then: Then,
-}
+// What a record leaves.
+pub type Said = playing::Said<Progress>;
 
 // Before a script: no card, for which the record of a refused make stands, and nothing lent.
+#[tactic(auto, unfolding(crate::specs::Progress::fresh_progress))]
 pub fn fresh() -> Progress
     ensures answer { result ≡ fresh_progress }
 {
@@ -66,6 +68,7 @@ pub fn fresh() -> Progress
 }
 
 // The record at the front of what is left of a script.
+#[tactic(auto, unfolding(crate::specs::Record::said_of, crate::specs::Record::buffers_after, crate::specs::Record::text_of))]
 pub fn carry_out(
     progress: Progress,
     script: &[u8],
@@ -81,7 +84,7 @@ pub fn carry_out(
         return left_alone(progress, Then::NoRoom);
     }
     let asked = cardline_script::read(progress.made, script);
-    obey(progress, asked, script, memory, map, out)
+    obey(progress, asked, script, &mut Buffers { memory, map }, out)
 }
 
 // The line at the end of the input, where so many bytes are left over of it: `cut`, or none.

@@ -3,7 +3,7 @@
 // is read into. specs/ has what a piece prints and leaves, whatever a record does; proofs/ that a
 // script played piece by piece is the script played at once.
 //
-// Offers: `Then`; `keep`.
+// Offers: `Then`, `Said`; `keep`.
 #![tactic(auto)]
 
 ghost use Rattle.std.specs.Prelude.{◌≡◌, ◌-◌, min, length};
@@ -17,6 +17,16 @@ pub enum Then {
     Stops,
     Waits,
     NoRoom,
+}
+
+// What a record, or a piece of a script, leaves: what is kept behind it; the bytes of the script that it
+// took, and those of its text at the front of the output; how the script goes on.
+#[derive(Clone, Copy)]
+pub struct Said<P> {
+    pub progress: P,
+    pub used: usize,
+    pub wrote: usize,
+    pub then: Then,
 }
 
 // The bytes of a buffer from one place to another, moved to its front: how many.

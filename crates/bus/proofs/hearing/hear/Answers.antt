@@ -42,7 +42,7 @@ returns-in-Ok c =
     let cid : length a.cid ≡ 16 = search rules in
     let csd : length a.csd ≡ 16 = search rules in
     let right = written_bytes a c.args.sent zeros c.requires cid csd (omega arith) _ w.answer n c.in-Ok.is in
-    let sends = w.output ∙ ap (λ (r : Written). laid r bytes zeros) c.in-Ok.is in
+    let sends = w.output ∙ ap (λ (r : Result ℕ Refusal). laid r bytes zeros) c.in-Ok.is in
     let whole : n - 0 ≡ n = omega arith in
     let ands : c.and.result ≡ anded c.heard.inside.line (take (n - 0) c.write_sent-written.new.out) = c.and.ensures.answer in
     ap₂ held
