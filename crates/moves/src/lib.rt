@@ -16,7 +16,7 @@ use states::Column;
 use table::{Entry, MOVES};
 
 // The standard's classes, as far as the base has commands of them.
-#[derive(Clone, Copy)]
+#[derive(Clone, Copy, PartialEq, Eq)]
 pub enum Class {
     Basic,
     BlockRead,
@@ -29,7 +29,7 @@ pub enum Class {
 
 // The rows of the table of moves: the lines of document 01's table in its order, with CMD0 and CMD4
 // in their places, a line with several outcomes in a row for each, and last what no line has.
-#[derive(Clone, Copy)]
+#[derive(Clone, Copy, PartialEq, Eq)]
 pub enum Row {
     // CMD0.
     GoIdleState,
@@ -71,7 +71,7 @@ pub enum Row {
 
 // What a row does in a state: nothing; nothing, and not for this card to judge; nothing but the
 // mark of an illegal command; a move.
-#[derive(Clone, Copy)]
+#[derive(Clone, Copy, PartialEq, Eq)]
 pub enum Move {
     Ignored,
     Silent,

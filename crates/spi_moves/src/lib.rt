@@ -18,7 +18,7 @@ use states::Column;
 use table::{Entry, MOVES};
 
 // The rows of the table of moves in SPI.
-#[derive(Clone, Copy)]
+#[derive(Clone, Copy, PartialEq, Eq)]
 pub enum Row {
     // CMD0.
     GoIdleState,

@@ -8,7 +8,7 @@ ghost use Rattle.std.specs.Prelude.{◌≡◌};
 ghost use Rattle.states.specs.States.{column_of, column_number};
 
 // What a card in rcv awaits: a block at an address, blocks from an address on, a lock request.
-#[derive(Clone, Copy)]
+#[derive(Clone, Copy, PartialEq, Eq)]
 pub enum Incoming {
     One(u32),
     Many(u32),
@@ -17,7 +17,7 @@ pub enum Incoming {
 
 // What a card in data is to send: a block from an address, blocks from an address on, the
 // protection bits from a group on; in SPI a register too.
-#[derive(Clone, Copy)]
+#[derive(Clone, Copy, PartialEq, Eq)]
 pub enum Outgoing {
     One(u32),
     Many(u32),
@@ -26,7 +26,7 @@ pub enum Outgoing {
     Cid,
 }
 
-#[derive(Clone, Copy)]
+#[derive(Clone, Copy, PartialEq, Eq)]
 pub enum State {
     Idle,
     Ready,
@@ -41,7 +41,7 @@ pub enum State {
 }
 
 // A state without what it waits for: a column of the table of moves, and what a status shows.
-#[derive(Clone, Copy)]
+#[derive(Clone, Copy, PartialEq, Eq)]
 pub enum Column {
     Idle,
     Ready,

@@ -12,7 +12,7 @@ ghost use Rattle.status.specs.Status.{no_errors, with_bit, command_bits_cleared,
 use states::Column;
 
 // The error bits that document 01 uses, by the names of source document 001, from bit 31 down.
-#[derive(Clone, Copy)]
+#[derive(Clone, Copy, PartialEq, Eq)]
 pub enum ErrorBit {
     OutOfRange,
     AddressError,
