@@ -40,7 +40,8 @@ pub enum State {
     Ina,
 }
 
-// A state without what it waits for: a column of the table of moves, and what a status shows.
+// A state without what it waits for: a column of the table of moves, and what a status shows. The
+// columns stand in the order of their numbers (`number`).
 #[derive(Clone, Copy, PartialEq, Eq)]
 pub enum Column {
     Idle,
@@ -72,20 +73,10 @@ pub fn column_of(state: State) -> Column
     }
 }
 
-// The number of a state: a status shows it, and a table of moves is indexed by it.
+// The number of a state, which is its place among the columns: a status shows it, and a table of
+// moves is indexed by it.
 pub fn number(column: Column) -> u8
     ensures answer { result ≡ column_number column }
 {
-    match column {
-        Column::Idle => 0,
-        Column::Ready => 1,
-        Column::Ident => 2,
-        Column::Stby => 3,
-        Column::Tran => 4,
-        Column::Data => 5,
-        Column::Rcv => 6,
-        Column::Prg => 7,
-        Column::Dis => 8,
-        Column::Ina => 9,
-    }
+    column as u8
 }
