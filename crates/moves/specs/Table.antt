@@ -8,8 +8,8 @@ use Rattle.moves.specs.Moves.{row_number, move_of}
 use Rattle.moves.specs.declared.Move.{Move}
 use Rattle.moves.specs.declared.Move.TheVariants.{Ignored, Silent, Illegal, To}
 use Rattle.moves.specs.declared.Row.{Row}
-use Rattle.moves.specs.declared.table.Entry.{Entry}
-use Rattle.moves.specs.declared.table.Entry.TheVariants as entry
+use Rattle.moves.specs.declared.entries.Entry.{Entry}
+use Rattle.moves.specs.declared.entries.Entry.TheVariants as entry
 
 abbrev pub meant_by : Entry → Move
 meant_by entry.Idle = To Idle
