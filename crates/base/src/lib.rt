@@ -21,7 +21,7 @@ pub const PROTECTION_GROUP: u32 = 8192;
 pub const READ_BLOCK: u32 = 2048;
 
 // Document 01, "Refusal numbers": a name for each row of the table, in its order.
-#[derive(Clone, Copy)]
+#[derive(Clone, Copy, PartialEq, Eq)]
 pub enum Refusal {
     FrameLength,
     FrameBits,

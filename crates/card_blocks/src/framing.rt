@@ -5,6 +5,7 @@ ghost use Rattle.card_blocks.specs.BlockIn.{block_replied};
 ghost use Rattle.card_blocks.specs.Framing.{beside, started, unstarted, crc_right, response_to};
 
 use crate::{Outcome, Reply, Stepped};
+use base::Refusal;
 use card_record::{Card, Mode, Sent};
 use wire::Checked;
 
@@ -74,7 +75,7 @@ fn response_to(spi: bool, outcome: Outcome) -> Sent
         Outcome::Done => Sent::DataResponse(ACCEPTED),
         Outcome::Wrote(_) => Sent::Nothing,
         Outcome::Refused(refusal) => {
-            if base::number(refusal) == 17 {
+            if refusal == Refusal::BlockCrc {
                 return Sent::DataResponse(CRC_WRONG);
             }
             Sent::Nothing
