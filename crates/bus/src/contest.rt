@@ -8,19 +8,14 @@ ghost use Rattle.shared_line.specs.Lowest.{is_low};
 use crate::{Bus, places};
 use card_record::Card;
 use shared_line::Low;
+use states::State;
 
 // Whether a card is Ready, and what its type says of its CID.
 fn is_ready(card: Card) -> bool
     ensures answer { result ≡ is_ready card }
     ensures bytes { Held card }
 {
-    if card.mode.spi {
-        return false;
-    }
-    let link = card.link;
-    let state = link.state;
-    let on = states::column_of(state);
-    states::number(on) == 1
+    !card.mode.spi && matches!(card.link.state, State::Ready)
 }
 
 // The smallest CID among the Ready cards, for CMD2 alone. What was found is made anew only where a
