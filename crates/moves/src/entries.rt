@@ -1,6 +1,6 @@
 // What a table of moves holds, MMC mode's and SPI's. An entry is one byte and holds nothing.
 ghost use Rattle.std.specs.Prelude.{◌≡◌};
-ghost use Rattle.moves.specs.Table.{meant_by};
+ghost use Rattle.moves.specs.Table.{meant_by, entry_in};
 
 use crate::Move;
 use states::Column;
@@ -69,5 +69,24 @@ pub fn meant(entry: Entry) -> Move
         Entry::Ignored => Move::Ignored,
         Entry::Silent => Move::Silent,
         Entry::Illegal => Move::Illegal,
+    }
+}
+
+// The entry of a line in a state, by a literal place: what is indexed so is read from where the
+// constant stands, and the table is never laid out on the stack.
+pub fn entry_in(line: [Entry; 10], column: Column) -> Entry
+    ensures answer { result ≡ entry_in line column }
+{
+    match column {
+        Column::Idle => line[0],
+        Column::Ready => line[1],
+        Column::Ident => line[2],
+        Column::Stby => line[3],
+        Column::Tran => line[4],
+        Column::Data => line[5],
+        Column::Rcv => line[6],
+        Column::Prg => line[7],
+        Column::Dis => line[8],
+        Column::Ina => line[9],
     }
 }

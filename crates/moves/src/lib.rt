@@ -12,9 +12,9 @@ ghost use Rattle.std.specs.Prelude.{◌≡◌};
 ghost use Rattle.moves.specs.Classes.{class_of};
 ghost use Rattle.moves.specs.Moves.{move_of};
 ghost use Rattle.moves.specs.Rows.{own, window, op_cond_row, cid_row, select_row, for_card, transfer_row, row_of};
-ghost use Rattle.moves.specs.Table.{Ruled};
+ghost use Rattle.moves.specs.Table.{entry_of, Ruled};
 
-use entries::{Entry, meant};
+use entries::{Entry, entry_in, meant};
 use states::Column;
 use table::MOVES;
 
@@ -108,11 +108,39 @@ pub fn class_of(index: u8) -> Class
     }
 }
 
-// The table by its rule: the only place that names it. It is read where it stands.
-fn legal_moves() -> &'static [[Entry; 10]; 20]
-    ensures { Ruled result.now }
+// The table by its rule: the only place that names it.
+fn legal_moves() -> [[Entry; 10]; 20]
+    ensures { Ruled result }
 {
-    &MOVES
+    MOVES
+}
+
+// The entry of a row in a state, by a literal place too (`entry_in`).
+fn entry_at(table: [[Entry; 10]; 20], row: Row, column: Column) -> Entry
+    ensures { result ≡ entry_of table row column }
+{
+    match row {
+        Row::GoIdleState => entry_in(table[0], column),
+        Row::OpCondAsked => entry_in(table[1], column),
+        Row::OpCondShared => entry_in(table[2], column),
+        Row::OpCondApart => entry_in(table[3], column),
+        Row::AllSendCidWon => entry_in(table[4], column),
+        Row::AllSendCidLost => entry_in(table[5], column),
+        Row::SetRelativeAddr => entry_in(table[6], column),
+        Row::SetDsr => entry_in(table[7], column),
+        Row::SelectCard => entry_in(table[8], column),
+        Row::DeselectCard => entry_in(table[9], column),
+        Row::SendRegister => entry_in(table[10], column),
+        Row::StopTransmission => entry_in(table[11], column),
+        Row::SendStatus => entry_in(table[12], column),
+        Row::GoInactiveState => entry_in(table[13], column),
+        Row::SetOrTag => entry_in(table[14], column),
+        Row::Read => entry_in(table[15], column),
+        Row::Write => entry_in(table[16], column),
+        Row::Program => entry_in(table[17], column),
+        Row::OtherAddress => entry_in(table[18], column),
+        Row::Unsupported => entry_in(table[19], column),
+    }
 }
 
 // Where a row leads from a state.
@@ -121,7 +149,8 @@ pub fn next(row: Row, column: Column) -> Move
     ensures answer { result ≡ move_of row column }
 {
     let table = legal_moves();
-    meant(table[row as usize][column as usize])
+    let entry = entry_at(table, row, column);
+    meant(entry)
 }
 
 // CMD1 by its window, bits 23..0.

@@ -2,7 +2,7 @@
 // states.
 use crate::entries::{DAT, DIS, Entry, IDL, IDT, IGN, ILL, INA, PRG, RCV, RDY, SIL, STB, TRN};
 
-pub static MOVES: [[Entry; 10]; 20] = [
+pub const MOVES: [[Entry; 10]; 20] = [
     // idl  rdy  idt  stb  trn  dat  rcv  prg  dis  ina: the state in which the command comes
     [IDL, IDL, IDL, IDL, IDL, IDL, IDL, IDL, IDL, IGN], // CMD0
     [IDL, SIL, SIL, SIL, SIL, SIL, SIL, SIL, SIL, IGN], // CMD1, window 0

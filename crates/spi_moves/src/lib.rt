@@ -9,10 +9,10 @@ mod table;
 
 ghost use Rattle.std.specs.Prelude.{◌≡◌};
 ghost use Rattle.spi_moves.specs.Moves.{row_of, move_of};
-ghost use Rattle.spi_moves.specs.Table.{Ruled};
+ghost use Rattle.spi_moves.specs.Table.{entry_of, Ruled};
 
 use moves::Move;
-use moves::entries::{Entry, meant};
+use moves::entries::{Entry, entry_in, meant};
 use states::Column;
 use table::MOVES;
 
@@ -60,11 +60,29 @@ pub fn row_of(index: u8) -> Row
     }
 }
 
-// The table by its rule: the only place that names it. It is read where it stands.
-fn legal_moves() -> &'static [[Entry; 10]; 10]
-    ensures { Ruled result.now }
+// The table by its rule: the only place that names it.
+fn legal_moves() -> [[Entry; 10]; 10]
+    ensures { Ruled result }
 {
-    &MOVES
+    MOVES
+}
+
+// The entry of a row in a state, by a literal place (`entry_in`).
+fn entry_at(table: [[Entry; 10]; 10], row: Row, column: Column) -> Entry
+    ensures { result ≡ entry_of table row column }
+{
+    match row {
+        Row::GoIdleState => entry_in(table[0], column),
+        Row::OpCond => entry_in(table[1], column),
+        Row::OcrOrCrc => entry_in(table[2], column),
+        Row::SendStatus => entry_in(table[3], column),
+        Row::SendRegister => entry_in(table[4], column),
+        Row::SetOrTag => entry_in(table[5], column),
+        Row::Read => entry_in(table[6], column),
+        Row::Write => entry_in(table[7], column),
+        Row::Program => entry_in(table[8], column),
+        Row::Unsupported => entry_in(table[9], column),
+    }
 }
 
 // Where a row leads from a state.
@@ -73,5 +91,6 @@ pub fn next(row: Row, column: Column) -> Move
     ensures answer { result ≡ move_of row column }
 {
     let table = legal_moves();
-    meant(table[row as usize][column as usize])
+    let entry = entry_at(table, row, column);
+    meant(entry)
 }
