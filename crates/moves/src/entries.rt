@@ -74,6 +74,7 @@ pub fn meant(entry: Entry) -> Move
 
 // The entry of a line in a state, by a literal place: what is indexed so is read from where the
 // constant stands, and the table is never laid out on the stack.
+// Tried: a static table, read by the numbers of row and state, takes 26 instructions more of a command.
 pub fn entry_in(line: [Entry; 10], column: Column) -> Entry
     ensures answer { result ≡ entry_in line column }
 {
