@@ -1,6 +1,6 @@
 -- A table of moves, whatever its rows are: one test that antt computes over all its places holds at each.
 --   everywhere   a test that passes at every row in every state passes at any
---   ruled        a table whose entries pass the test against a rule stands for that rule
+--   ruled        a table whose entries pass the test against a rule holds that rule's moves
 -- Assumes nothing.
 use mathlib.Core.Path.{◌≡◌, subst, subst⁻¹}
 use mathlib.Core.Bool.{Bool}
@@ -16,10 +16,9 @@ use Rattle.states.specs.declared.Column.TheVariants.{Idle}
 use Rattle.states.proofs.Columns.{columns, column_by, column_placed}
 use Rattle.moves.proofs.Spans.{told}
 use Rattle.moves.proofs.Numbers.{move_number, moves_numbered}
-use Rattle.moves.specs.Table.{meant_by, entry_in}
+use Rattle.moves.specs.Table.{entry_in}
 use Rattle.moves.specs.declared.Move.{Move}
-use Rattle.moves.specs.declared.entries.Entry.{Entry}
-use Rattle.moves.specs.declared.entries.Entry.TheVariants as entry
+use Rattle.moves.specs.declared.Move.TheVariants.{Ignored}
 
 module _ {Row : Type 0} (rows : List Row) where
   abbrev in_every : (Row → Column → Bool) → Row → Bool
@@ -33,17 +32,17 @@ module _ {Row : Type 0} (rows : List Row) where
   Placed first number row = (number row < length rows) × (get_or rows (number row) first ≡ row)
 
 module _ {Row : Type 0} (rows : List Row) (first : Row) (rule : Row → Column → Move) where
-  abbrev stands : Entry → Row → Column → Bool
-  stands e row column = eqb (move_number (meant_by e)) (move_number (rule row column))
+  abbrev stands : Move → Row → Column → Bool
+  stands e row column = eqb (move_number e) (move_number (rule row column))
 
-  abbrev in_line : ℕ → ℕ → Entry → Bool
+  abbrev in_line : ℕ → ℕ → Move → Bool
   in_line line place e = stands e (get_or rows line first) (column_by place)
 
-  abbrev right : ℕ → List Entry → Bool
+  abbrev right : ℕ → List Move → Bool
   right line entries = both (eqb (length entries) 10) (every (in_line line) 0 entries)
 
-  -- a line for each row, whose ten entries stand for the rule's moves
-  abbrev pub Right : List (List Entry) → Type 0
+  -- a line for each row, whose ten entries are the rule's moves
+  abbrev pub Right : List (List Move) → Type 0
   Right table = T (every right 0 table) × (length table ≡ length rows)
 
 module _ {Row : Type 0} (rows : List Row) (first : Row) (number : Row → ℕ) (placed : (row : Row) → Placed rows first number row) where
@@ -56,8 +55,8 @@ module _ {Row : Type 0} (rows : List Row) (first : Row) (number : Row → ℕ) (
       (column_number column)
       (column_placed column).0)
 
-  pub ruled : (rule : Row → Column → Move) (table : List (List Entry)) → Right rows first rule table → (row : Row) (column : Column)
-      → meant_by (entry_in (get_or table (number row) []) column) ≡ rule row column
+  pub ruled : (rule : Row → Column → Move) (table : List (List Move)) → Right rows first rule table → (row : Row) (column : Column)
+      → entry_in (get_or table (number row) []) column ≡ rule row column
   ruled rule table t row column =
       let entries = get_or table (number row) [] in
       let line : T (right rows first rule (number row) entries) =
@@ -66,8 +65,8 @@ module _ {Row : Type 0} (rows : List Row) (first : Row) (number : Row → ℕ) (
       let ten : length entries ≡ 10 = eqb→eq (length entries) 10 (both_left (eqb (length entries) 10) (every held 0 entries) line) in
       let e = entry_in entries column in
       let here : T (held (column_number column) e) =
-      at held entry.Idle entries (both_right (eqb (length entries) 10) (every held 0 entries) line) (column_number column)
+      at held Ignored entries (both_right (eqb (length entries) 10) (every held 0 entries) line) (column_number column)
       (subst⁻¹ (λ (m : ℕ). column_number column < m) ten (column_placed column).0) in
-      told moves_numbered (meant_by e) (rule row column)
+      told moves_numbered e (rule row column)
       (subst (λ (r : Row). T (stands rows first rule e r column)) (placed row).1
       (subst (λ (k : Column). T (stands rows first rule e (get_or rows (number row) first) k)) (column_placed column).1 here))

@@ -14,7 +14,7 @@ ghost use Rattle.moves.specs.Moves.{move_of};
 ghost use Rattle.moves.specs.Rows.{own, window, op_cond_row, cid_row, select_row, for_card, transfer_row, row_of};
 ghost use Rattle.moves.specs.Table.{entry_of, Ruled};
 
-use entries::{Entry, entry_in, meant};
+use entries::entry_in;
 use states::Column;
 use table::MOVES;
 
@@ -109,14 +109,14 @@ pub fn class_of(index: u8) -> Class
 }
 
 // The table by its rule: the only place that names it.
-fn legal_moves() -> [[Entry; 10]; 20]
+fn legal_moves() -> [[Move; 10]; 20]
     ensures { Ruled result }
 {
     MOVES
 }
 
 // The entry of a row in a state, by a literal place too (`entry_in`).
-fn entry_at(table: [[Entry; 10]; 20], row: Row, column: Column) -> Entry
+fn entry_at(table: [[Move; 10]; 20], row: Row, column: Column) -> Move
     ensures { result ≡ entry_of table row column }
 {
     match row {
@@ -148,9 +148,7 @@ fn entry_at(table: [[Entry; 10]; 20], row: Row, column: Column) -> Entry
 pub fn next(row: Row, column: Column) -> Move
     ensures answer { result ≡ move_of row column }
 {
-    let table = legal_moves();
-    let entry = entry_at(table, row, column);
-    meant(entry)
+    entry_at(legal_moves(), row, column)
 }
 
 // CMD1 by its window, bits 23..0.

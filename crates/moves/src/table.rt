@@ -1,8 +1,9 @@
 // Document 01's legal moves as one fixed table: a line for each `Row`, in its order, against the ten
 // states.
-use crate::entries::{DAT, DIS, Entry, IDL, IDT, IGN, ILL, INA, PRG, RCV, RDY, SIL, STB, TRN};
+use crate::Move;
+use crate::entries::{DAT, DIS, IDL, IDT, IGN, ILL, INA, PRG, RCV, RDY, SIL, STB, TRN};
 
-pub const MOVES: [[Entry; 10]; 20] = [
+pub const MOVES: [[Move; 10]; 20] = [
     // idl  rdy  idt  stb  trn  dat  rcv  prg  dis  ina: the state in which the command comes
     [IDL, IDL, IDL, IDL, IDL, IDL, IDL, IDL, IDL, IGN], // CMD0
     [IDL, SIL, SIL, SIL, SIL, SIL, SIL, SIL, SIL, IGN], // CMD1, window 0

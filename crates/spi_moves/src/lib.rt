@@ -12,7 +12,7 @@ ghost use Rattle.spi_moves.specs.Moves.{row_of, move_of};
 ghost use Rattle.spi_moves.specs.Table.{entry_of, Ruled};
 
 use moves::Move;
-use moves::entries::{Entry, entry_in, meant};
+use moves::entries::entry_in;
 use states::Column;
 use table::MOVES;
 
@@ -61,14 +61,14 @@ pub fn row_of(index: u8) -> Row
 }
 
 // The table by its rule: the only place that names it.
-fn legal_moves() -> [[Entry; 10]; 10]
+fn legal_moves() -> [[Move; 10]; 10]
     ensures { Ruled result }
 {
     MOVES
 }
 
 // The entry of a row in a state, by a literal place (`entry_in`).
-fn entry_at(table: [[Entry; 10]; 10], row: Row, column: Column) -> Entry
+fn entry_at(table: [[Move; 10]; 10], row: Row, column: Column) -> Move
     ensures { result ≡ entry_of table row column }
 {
     match row {
@@ -90,7 +90,5 @@ fn entry_at(table: [[Entry; 10]; 10], row: Row, column: Column) -> Entry
 pub fn next(row: Row, column: Column) -> Move
     ensures answer { result ≡ move_of row column }
 {
-    let table = legal_moves();
-    let entry = entry_at(table, row, column);
-    meant(entry)
+    entry_at(legal_moves(), row, column)
 }

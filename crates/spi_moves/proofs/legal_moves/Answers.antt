@@ -5,14 +5,14 @@
 use mathlib.Core.Path.{refl}
 use mathlib.Core.List.{List}
 use Rattle.moves.proofs.Tables as tables
-use Rattle.moves.specs.declared.entries.Entry.{Entry}
+use Rattle.moves.specs.declared.Move.{Move}
 use Rattle.spi_moves.proofs.Orders.{rows, row_placed}
 use Rattle.spi_moves.specs.Moves.{move_of}
 use Rattle.spi_moves.specs.Table.{row_number, Ruled}
 use Rattle.spi_moves.specs.declared.Row.TheVariants.{GoIdleState}
 use Rattle.spi_moves.proofs.legal_moves.Goals as goal
 
-ruled : (table : List (List Entry)) → tables.Right rows GoIdleState move_of table → Ruled table
+ruled : (table : List (List Move)) → tables.Right rows GoIdleState move_of table → Ruled table
 unfolding Ruled
 ruled = tables.ruled rows GoIdleState row_number row_placed move_of
 
