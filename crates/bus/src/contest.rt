@@ -7,14 +7,14 @@ ghost use Rattle.shared_line.specs.Lowest.{is_low};
 
 use crate::{Bus, places};
 use card_record::Card;
-use states::Column;
+use states::State;
 
 // Whether a card is Ready, and what its type says of its CID.
 fn is_ready(card: Card) -> bool
     ensures answer { result ≡ is_ready card }
     ensures bytes { Held card }
 {
-    !card.mode.spi && matches!(states::column_of(card.link.state), Column::Ready)
+    !card.mode.spi && matches!(card.link.state, State::Ready)
 }
 
 // The smallest CID among the Ready cards, for CMD2 alone. What was found is made anew only where a

@@ -38,7 +38,10 @@ pub fn added_line(adding: Result<usize, Refusal>, out: &mut [u8]) -> usize
 fn prints_silent(why: Refusal) -> bool
     ensures { result ≡ prints_silent why }
 {
-    base::number(why) <= 3
+    matches!(
+        why,
+        Refusal::FrameLength | Refusal::FrameBits | Refusal::FrameCrc
+    )
 }
 
 fn refused_line(count: u64, why: Refusal, out: &mut [u8]) -> usize

@@ -65,7 +65,7 @@ fn response_to(spi: bool, outcome: Result<Option<usize>, Refusal>) -> Sent
         Ok(None) => Sent::DataResponse(ACCEPTED),
         Ok(Some(_)) => Sent::Nothing,
         Err(refusal) => {
-            if base::number(refusal) == 17 {
+            if refusal == Refusal::BlockCrc {
                 return Sent::DataResponse(CRC_WRONG);
             }
             Sent::Nothing

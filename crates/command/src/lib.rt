@@ -18,7 +18,7 @@ ghost use Rattle.command.specs.Command.{received_of, damaged_link, taken_of, mov
 use card_record::{Link, Sent};
 use moves::{Move, Received, Row};
 pub use obey::act;
-use states::Column;
+use states::{Column, State};
 use status::{ErrorBit, Errors};
 
 // What a command meets at a card beside the link: whether the card would win the line in CMD2, the
@@ -145,12 +145,11 @@ fn silent(link: Link) -> Commanded
 }
 
 // Check 2: what a frame with a wrong CRC7 leaves at a card.
+#[tactic(auto, unfolding(crate::specs::Command::damaged_link))]
 pub fn damaged(link: Link) -> Link
     ensures answer { result ≡ damaged_link link }
 {
-    let state = link.state;
-    let on = states::column_of(state);
-    if states::number(on) == 9 {
+    if matches!(link.state, State::Ina) {
         return link;
     }
     Link {

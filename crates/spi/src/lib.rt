@@ -18,7 +18,7 @@ use card_record::{Link, Mode, Sent};
 use command::{Change, Met};
 use moves::Move;
 use replies::{in_mmc, in_spi, is_idle, left_by, pending, response_of, sent_by, shown};
-use states::Column;
+use states::{Column, State};
 use status::{ErrorBit, Errors};
 
 // What a command leaves: the mode, the link, what is sent, and what is to change in what is lent.
@@ -219,6 +219,7 @@ pub fn hear(mode: Mode, selected: bool, link: Link, met: Met, index: u8, argumen
 }
 
 // What a frame that is refused 3 leaves: in SPI an R1 is sent beside the number.
+#[tactic(auto, unfolding(crate::specs::Hearing::damaged_of, crate::specs::Answering::untaken, crate::specs::Answers::faulted))]
 pub fn damaged(mode: Mode, selected: bool, link: Link) -> Heard
     ensures answer { result ≡ damaged_of mode selected link }
 {
@@ -229,9 +230,7 @@ pub fn damaged(mode: Mode, selected: bool, link: Link) -> Heard
     if !selected {
         return unheard(mode, link);
     }
-    let state = link.state;
-    let on = states::column_of(state);
-    if states::number(on) == 9 {
+    if matches!(link.state, State::Ina) {
         return unheard(mode, link);
     }
     let errors = status::set(link.errors, ErrorBit::ComCrcError);

@@ -27,8 +27,7 @@ pub fn response_of(index: u8) -> Response
 pub fn is_idle(state: State) -> bool
     ensures { result ≡ idle_in state }
 {
-    let on = states::column_of(state);
-    states::number(on) == 0
+    matches!(state, State::Idle)
 }
 
 // An answer of these error bits, by a card that is idle after the command, or is not, and locked or not.

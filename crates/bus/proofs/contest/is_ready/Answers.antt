@@ -1,4 +1,4 @@
--- `bus::contest::is_ready` meets its contract: not in SPI, and Ready is state 1; and what the type of a card says of its CID.
+-- `bus::contest::is_ready` meets its contract: not in SPI, and Ready; and what the type of a card says of its CID.
 -- Assumes nothing.
 use mathlib.Core.Bool.{false}
 use mathlib.Core.Path.{◌≡◌, refl, ap, ◌∙◌}
@@ -16,25 +16,8 @@ use Rattle.bus.proofs.contest.is_ready.Goals.{Start}
 held : (s : Start) → Held s.args.card
 held s = bytes_held (cid_of s.args.card) 16 (search rules) (λ i. search rules)
 
-not_ready : (column : Column) → (column ≡ Ready → ⊥) → false ≡ eqb (column_number column) 1
-not_ready Idle h = refl
-not_ready Ready h = absurd (h refl)
-not_ready Ident h = refl
-not_ready Stby h = refl
-not_ready Tran h = refl
-not_ready Data h = refl
-not_ready Rcv h = refl
-not_ready Prg h = refl
-not_ready Dis h = refl
-not_ready Ina h = refl
-
 pub returns-in-Ready-clause-bytes : goal.returns-in-Ready-clause-bytes
 returns-in-Ready-clause-bytes c = held c.before.before.before.before.before
-
-pub returns-in_default-clause-answer : goal.returns-in_default-clause-answer
-returns-in_default-clause-answer c =
-    rw c.if-not-card.true
-    (not_ready c.column_of.result c.in_default.not-Ready ∙ ap (λ (k : Column). eqb (column_number k) 1) c.column_of.ensures.answer)
 
 pub returns-in_default-clause-bytes : goal.returns-in_default-clause-bytes
 returns-in_default-clause-bytes c = held c.before.before.before.before.before
