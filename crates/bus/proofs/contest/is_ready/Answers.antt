@@ -1,12 +1,6 @@
 -- `bus::contest::is_ready` meets its contract: not in SPI, and Ready; and what the type of a card says of its CID.
 -- Assumes nothing.
-use mathlib.Core.Bool.{false}
-use mathlib.Core.Path.{◌≡◌, refl, ap, ◌∙◌}
 use borrow.Author.Rules.{rules}
-use lib.Dec.{eqb}
-use Rattle.states.specs.States.{column_number}
-use Rattle.states.specs.declared.Column.{Column}
-use Rattle.states.specs.declared.Column.TheVariants.{Idle, Ready, Ident, Stby, Tran, Data, Rcv, Prg, Dis, Ina}
 use Rattle.bus.proofs.Lists.{bytes_held}
 use Rattle.bus.specs.Contest.{cid_of, Held}
 use Rattle.bus.proofs.contest.is_ready.Goals as goal
@@ -17,10 +11,10 @@ held : (s : Start) → Held s.args.card
 held s = bytes_held (cid_of s.args.card) 16 (search rules) (λ i. search rules)
 
 pub returns-in-Ready-clause-bytes : goal.returns-in-Ready-clause-bytes
-returns-in-Ready-clause-bytes c = held c.before.before.before.before.before
+returns-in-Ready-clause-bytes c = held c.before.before.before
 
 pub returns-in_default-clause-bytes : goal.returns-in_default-clause-bytes
-returns-in_default-clause-bytes c = held c.before.before.before.before.before
+returns-in_default-clause-bytes c = held c.before.before.before
 
 pub returns-else-not-card-clause-bytes : goal.returns-else-not-card-clause-bytes
 returns-else-not-card-clause-bytes c = held c.before.before
