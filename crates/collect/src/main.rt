@@ -44,18 +44,17 @@ fn tell(bus: Bus, index: u8, argument: u32) -> Bus {
 // answered. 30 units can answer no more than 30.
 fn rounds(rt: &impl Print, docked: Bus) -> u16 {
     let mut bus = tell(docked, 1, 0x00FF_8000);
-    let mut answered: u16 = 0;
-    while answered < 30 {
+    for answered in 0..30 {
         let asked = send(bus, 2, 0);
         let shown = asked.shown;
         let line = asked.line;
         if !say::heard(rt, shown, line) {
             return answered;
         }
-        answered += 1;
-        bus = reached(rt, asked.bus, answered as u32 * 65536, place_of(line));
+        let address = (u32::from(answered) + 1) << 16;
+        bus = reached(rt, asked.bus, address, place_of(line));
     }
-    answered
+    30
 }
 
 // Where the unit is that was heard, by the dock's own list: it knows of one with each identifier.

@@ -15,12 +15,6 @@ fn written(rt: &impl Print, answer: Written, text: &[u8], words: &[u8]) {
     say(rt, words);
 }
 
-fn number(rt: &impl Print, n: u64, words: &[u8]) {
-    let mut text = [0u8; 20];
-    let answer = text::decimal(n, &mut text);
-    written(rt, answer, &text, words);
-}
-
 // At most 17 bytes, as many as any answer has, and words.
 fn hex(rt: &impl Print, bytes: &[u8], words: &[u8]) {
     let mut text = [0u8; 34];
@@ -39,13 +33,10 @@ pub fn heard(rt: &impl Print, shown: Shown, line: [u8; 17]) -> bool {
 }
 
 // The first bytes of the block that the last call gave.
-pub fn read(rt: &impl Print, turn: u8, block: &[u8]) {
-    if turn == 5 {
-        hex(rt, part(block, 0, 8), b" is written and read\n");
-    }
+pub fn read(rt: &impl Print, block: &[u8]) {
+    hex(rt, part(block, 0, 8), b" is written and read\n");
 }
 
 pub fn counted(rt: &impl Print, units: usize, answered: u16) {
-    number(rt, units as u64, b" units are docked, ");
-    number(rt, answered as u64, b" rounds were answered\n");
+    let _ = println!(rt; "{units} units are docked, {answered} rounds were answered");
 }

@@ -1,9 +1,9 @@
 // The numbers and bytes that the words of a script stand for.
 //
-// Offers: `Bytes`; `number_of`, `bytes_of`, `word_of`.
+// Offers: `Bytes`; `number_of`, `repeat`, `bytes_of`, `word_of`.
 use arrayvec::ArrayVec;
 use program_io::digit;
-use std::{iter, str};
+use std::str;
 
 // The bytes of a word: one that stands for more is refused.
 pub type Bytes = ArrayVec<u8, 4096>;
@@ -40,7 +40,8 @@ fn item(text: &[u8], bytes: &mut Bytes) -> Option<()> {
     Some(())
 }
 
-fn repeat(b: u8, times: u16, bytes: &mut Bytes) -> Option<()> {
+// A byte a number of times, behind the bytes before it.
+pub fn repeat(b: u8, times: u16, bytes: &mut Bytes) -> Option<()> {
     for _ in 0..times {
         bytes.try_push(b).ok()?;
     }
@@ -51,7 +52,7 @@ fn repeat(b: u8, times: u16, bytes: &mut Bytes) -> Option<()> {
 // wrong as a word that stands for none.
 pub fn bytes_of(word: &[u8]) -> Option<Bytes> {
     let mut bytes = Bytes::new();
-    if word == b"-" {
+    if word == b"-".as_slice() {
         return Some(bytes);
     }
     for text in word.split(|b| *b == b'+') {
@@ -62,13 +63,8 @@ pub fn bytes_of(word: &[u8]) -> Option<Bytes> {
 
 // The number of a word of eight hex digits.
 pub fn word_of(word: &[u8]) -> Option<u32> {
-    let [a, b, c, d, e, f, g, h] = word else {
+    if word.len() != 8 || !word.iter().all(|b| b.is_ascii_hexdigit()) {
         return None;
-    };
-    Some(crc::word(
-        pair(&[*a, *b])?,
-        pair(&[*c, *d])?,
-        pair(&[*e, *f])?,
-        pair(&[*g, *h])?,
-    ))
+    }
+    u32::from_str_radix(str::from_utf8(word).ok()?, 16).ok()
 }

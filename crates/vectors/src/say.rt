@@ -1,6 +1,6 @@
 // What came of a request, printed.
 //
-// Offers: `say`, `say_hex`, `say_half`; `say_frame`, `say_framing`, `say_checked`, `say_written`.
+// Offers: `say`, `say_hex`; `say_frame`, `say_framing`, `say_checked`, `say_written`.
 use base::{Refusal, Written};
 use text::parts::part;
 use wire::{Checked, Frame, Framing};
@@ -17,26 +17,15 @@ fn say_text(rt: &impl Print, answer: Written, text: &[u8]) {
     }
 }
 
-fn say_decimal(rt: &impl Print, n: u64) {
-    let mut text = [0u8; 20];
-    let answer = text::decimal(n, &mut text);
-    say_text(rt, answer, &text);
-}
-
 // At most 40 bytes, in hex; `-` for none, as in a request.
 pub fn say_hex(rt: &impl Print, bytes: &[u8]) {
-    if bytes.len() == 0 {
+    if bytes.is_empty() {
         say(rt, b"-");
         return;
     }
     let mut text = [0u8; 80];
     let answer = text::hex(bytes, &mut text);
     say_text(rt, answer, &text);
-}
-
-// Four hex digits.
-pub fn say_half(rt: &impl Print, half: u16) {
-    say_hex(rt, &[(half / 256) as u8, (half % 256) as u8]);
 }
 
 // A whole lent output, so that one sees what was not written too: a long one by its ends.
@@ -52,16 +41,11 @@ fn say_lent(rt: &impl Print, out: &[u8]) {
 }
 
 fn say_refused(rt: &impl Print, refusal: Refusal) {
-    say(rt, b"refused ");
-    say_decimal(rt, base::number(refusal) as u64);
+    let _ = print!(rt; "refused {}", base::number(refusal));
 }
 
 fn say_command(rt: &impl Print, index: u8, argument: u32) {
-    say(rt, b"CMD");
-    say_decimal(rt, index as u64);
-    say(rt, b" argument ");
-    say_half(rt, (argument / 65536) as u16);
-    say_half(rt, (argument % 65536) as u16);
+    let _ = print!(rt; "CMD{index} argument {argument:08X}");
 }
 
 pub fn say_frame(rt: &impl Print, frame: Frame) {
@@ -79,11 +63,14 @@ pub fn say_framing(rt: &impl Print, framing: Framing) {
             crc_right,
         } => {
             say_command(rt, index, argument);
-            if crc_right {
-                say(rt, b" crc right");
-            } else {
-                say(rt, b" crc wrong");
-            }
+            say(
+                rt,
+                if crc_right {
+                    b" crc right"
+                } else {
+                    b" crc wrong"
+                },
+            );
         }
         Framing::Unframed(refusal) => say_refused(rt, refusal),
     }
@@ -92,9 +79,7 @@ pub fn say_framing(rt: &impl Print, framing: Framing) {
 pub fn say_checked(rt: &impl Print, checked: Checked) {
     match checked {
         Checked::Payload(n) => {
-            say(rt, b"payload of ");
-            say_decimal(rt, n as u64);
-            say(rt, b" bytes");
+            let _ = print!(rt; "payload of {n} bytes");
         }
         Checked::Refused(refusal) => say_refused(rt, refusal),
     }
@@ -104,8 +89,7 @@ pub fn say_checked(rt: &impl Print, checked: Checked) {
 pub fn say_written(rt: &impl Print, answer: Written, out: &[u8]) {
     match answer {
         Written::Bytes(n) => {
-            say_decimal(rt, n as u64);
-            say(rt, b" bytes ");
+            let _ = print!(rt; "{n} bytes ");
         }
         Written::Refused(refusal) => {
             say_refused(rt, refusal);
