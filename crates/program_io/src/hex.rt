@@ -17,9 +17,7 @@ pub enum Wrong {
 impl fmt::Display for Wrong {
     fn fmt<W: fmt::Write>(&self, f: &mut fmt::Formatter<W>) -> fmt::Result {
         match self {
-            Wrong::OddDigits { line } => {
-                write!(f, "an odd number of hex digits in line {line}")
-            }
+            Wrong::OddDigits { line } => { write!(f, "an odd number of hex digits in line {line}") }
             Wrong::NoDigit { line } => write!(f, "no hex digit in line {line}"),
             Wrong::TooLong { line } => write!(f, "too long at line {line}"),
         }

@@ -3,23 +3,24 @@
 // standard error, in words. No contract can say what is read or written: what a script prints is
 // promised in `cardline_records` and `busline_records`.
 //
-// Offers: `Told`; `more`, `all`; `Unwritten`, `show`; `named`; `digit`.
+// Offers: `Told`; `more`, `all`; `Unwritten`, `show`; `named`; `digit`; `play`.
 #![tactic(auto)]
 
 mod hex;
+mod turns;
 
 ghost use Rattle.std.specs.Prelude.{◌≡◌, ◌≤◌, ◌<◌, min, length, IfOk, IfSome, MatchResult};
 ghost use Rattle.program_io.specs.Reading.{Behind};
 
-pub use hex::digit;
-
 use hex::decode;
+pub use hex::digit;
 use std::env::FillError;
 use std::fmt::{Display, InlineText};
 use std::io::Read;
 use std::rt::{Env, Files};
 use std::{fs, io, str};
 use text::parts::part;
+pub use turns::play;
 
 // Why a program goes no further is said on standard error: there is no more to say of it.
 #[derive(Clone, Copy, Debug, PartialEq, Eq)]
@@ -84,11 +85,7 @@ pub fn named(
     }
 }
 
-fn headed(
-    rt: &(impl Files + Print + Eprint),
-    name: &[u8],
-    bytes: &mut [u8],
-) -> Result<usize, Told>
+fn headed(rt: &(impl Files + Print + Eprint), name: &[u8], bytes: &mut [u8]) -> Result<usize, Told>
     ensures within { IfOk result (λ n. n ≤ length bytes.old) }
 {
     let _ = rt.write_all(b"== ");
