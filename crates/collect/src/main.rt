@@ -29,15 +29,12 @@ fn docked(bus: Bus, cid: [u8; 16]) -> Bus {
 
 // A command for all units.
 fn send(bus: Bus, index: u8, argument: u32) -> Framed {
-    let mut frame = [0u8; 6];
-    wire::write_command(index, argument, &mut frame);
-    bus::frame(bus, &frame)
+    bus::frame(bus, &own::command(index, argument))
 }
 
 // The same, where what the line shows is no matter.
 fn tell(bus: Bus, index: u8, argument: u32) -> Bus {
-    let framed = send(bus, index, argument);
-    framed.bus
+    send(bus, index, argument).bus
 }
 
 // CMD1 makes all ready. Then CMD2 asks who is there, until nobody answers: how many rounds were

@@ -1,6 +1,6 @@
 // A unit at its own calls: made, written and read. No group of its memory is protected.
 //
-// Offers: `made`, `exchanged`.
+// Offers: `made`, `exchanged`, `command`.
 use crate::say;
 use card::Call;
 use card_record::Card;
@@ -28,7 +28,7 @@ pub fn exchanged(rt: &impl Print, before: Card) -> Card {
     let card = called(card, Call::WorkDone, b"", &mut memory, &mut out);
     let card = called(card, frame, &command(17, 0), &mut memory, &mut out);
     let card = called(card, Call::BlockOut, b"", &mut memory, &mut out);
-    say::read(rt, &out);
+    say::read(rt, out);
     card
 }
 
@@ -36,7 +36,7 @@ fn called(card: Card, call: Call, input: &[u8], memory: &mut [u8], out: &mut [u8
     card::step(card, call, input, memory, &mut [0u8; 1], out).card
 }
 
-fn command(index: u8, argument: u32) -> [u8; 6] {
+pub fn command(index: u8, argument: u32) -> [u8; 6] {
     let mut frame = [0u8; 6];
     wire::write_command(index, argument, &mut frame);
     frame

@@ -19,7 +19,8 @@ fn main(rt: HostRuntime) {
     }
 }
 
-// Whether there is an argument: the list of them ends before the first that there is not.
+// Whether there is an argument: the list of them ends before the first that there is not. One at a
+// time, since std's list of them takes memory that a program may not get.
 fn is_given(rt: &impl Env, i: usize) -> bool {
     !matches!(rt.arg(i, &mut [0u8; 64]), Err(FillError::NotPresent))
 }

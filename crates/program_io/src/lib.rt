@@ -3,10 +3,11 @@
 // standard error, in words. No contract can say what is read or written: what a script prints is
 // promised in `cardline_records` and `busline_records`.
 //
-// Offers: `Told`; `more`, `all`; `Unwritten`, `show`; `named`; `digit`; `play`.
+// Offers: `Told`; `more`, `all`; `Unwritten`, `show`; `named`; `digit`, `Hex`; `play`.
 #![tactic(auto)]
 
 mod hex;
+mod shown;
 mod turns;
 
 ghost use Rattle.std.specs.Prelude.{◌≡◌, ◌≤◌, ◌<◌, min, length, IfOk, IfSome, MatchResult};
@@ -14,12 +15,12 @@ ghost use Rattle.program_io.specs.Reading.{Behind};
 
 use hex::decode;
 pub use hex::digit;
+pub use shown::Hex;
 use std::env::FillError;
 use std::fmt::{Display, InlineText};
 use std::io::Read;
 use std::rt::{Env, Files};
 use std::{fs, io, str};
-use text::parts::part;
 pub use turns::play;
 
 // Why a program goes no further is said on standard error: there is no more to say of it.
@@ -115,7 +116,7 @@ fn read(
 {
     let mut text = [0u8; 65536];
     let n = all(rt, file, name, &mut text)?;
-    match decode(part(&text, 0, n), bytes) {
+    match decode(&text[..n], bytes) {
         Ok(n) => Ok(n),
         Err(wrong) => Err(fail(rt, name, wrong)),
     }

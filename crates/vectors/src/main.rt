@@ -10,12 +10,11 @@ mod say;
 use program_io::{Unwritten, all, show};
 use request::answer;
 use say::say;
-use text::parts::part;
 
 fn main(rt: HostRuntime) {
     let mut text = [0u8; 65536];
     if let Ok(n) = all(&rt, &mut rt.stdin(), b"standard input", &mut text) {
-        let _ = run(&rt, part(&text, 0, n));
+        let _ = run(&rt, &text[..n]);
     }
 }
 

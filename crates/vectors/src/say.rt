@@ -2,7 +2,7 @@
 //
 // Offers: `say`, `say_hex`; `say_frame`, `say_framing`, `say_checked`, `say_written`.
 use base::{Refusal, Written};
-use text::parts::part;
+use program_io::Hex;
 use wire::{Checked, Frame, Framing};
 
 // A text, written to standard output. Whether it was is asked at a line's end, where it is said.
@@ -10,34 +10,18 @@ pub fn say(rt: &impl Print, text: &[u8]) {
     let _ = rt.write_all(text);
 }
 
-// The front of a text, as long as the call that wrote it says.
-fn say_text(rt: &impl Print, answer: Written, text: &[u8]) {
-    if let Written::Bytes(n) = answer {
-        say(rt, part(text, 0, n));
-    }
-}
-
-// At most 40 bytes, in hex; `-` for none, as in a request.
 pub fn say_hex(rt: &impl Print, bytes: &[u8]) {
-    if bytes.is_empty() {
-        say(rt, b"-");
-        return;
-    }
-    let mut text = [0u8; 80];
-    let answer = text::hex(bytes, &mut text);
-    say_text(rt, answer, &text);
+    let _ = print!(rt; "{}", Hex(bytes));
 }
 
 // A whole lent output, so that one sees what was not written too: a long one by its ends.
 fn say_lent(rt: &impl Print, out: &[u8]) {
     let n = out.len();
-    if n <= 40 {
-        say_hex(rt, out);
-        return;
-    }
-    say_hex(rt, &out[0..8]);
-    say(rt, b"..");
-    say_hex(rt, &out[n - 8..n]);
+    let _ = if n <= 40 {
+        print!(rt; "{}", Hex(out))
+    } else {
+        print!(rt; "{}..{}", Hex(&out[..8]), Hex(&out[n - 8..]))
+    };
 }
 
 fn say_refused(rt: &impl Print, refusal: Refusal) {
@@ -63,14 +47,8 @@ pub fn say_framing(rt: &impl Print, framing: Framing) {
             crc_right,
         } => {
             say_command(rt, index, argument);
-            say(
-                rt,
-                if crc_right {
-                    b" crc right"
-                } else {
-                    b" crc wrong"
-                },
-            );
+            let sum = if crc_right { "right" } else { "wrong" };
+            let _ = print!(rt; " crc {sum}");
         }
         Framing::Unframed(refusal) => say_refused(rt, refusal),
     }
