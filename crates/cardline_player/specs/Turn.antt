@@ -6,6 +6,7 @@ use Rattle.cardline_records.specs.Record.{said_of}
 use Rattle.cardline_records.specs.declared.Progress.{Progress}
 use Rattle.playing.specs.declared.Said.{Said}
 use Rattle.playing.specs.Playing.{kept_of}
+use Rattle.playing.specs.declared.player.Turn.{Turn}
 use Rattle.playing.specs.declared.Then.{Then}
 use Rattle.playing.specs.declared.Then.TheVariants.{Goes, Stops, Waits, NoRoom}
 use Rattle.store.specs.Lent.{Lent}
@@ -39,3 +40,7 @@ advanced_of w from to buffer lent room =
 
 unfoldable pub buffer_of : Progress → ℕ → ℕ → List ℕ → Lent → ℕ → List ℕ
 buffer_of w from to buffer lent room = buffer_by (said_of w (at_hand from to buffer) lent room).then from (min to (length buffer) - from) buffer
+
+-- what of it the next turn is told of
+abbrev pub turn_of : Turned → Turn
+turn_of turned = record { to = turned.to; wrote = turned.wrote; then = turned.then }

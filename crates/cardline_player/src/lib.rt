@@ -3,8 +3,10 @@
 // moved to the front of the buffer, behind which more is read. What is handed to the write call is
 // promised here; that it arrives is the operating system's.
 //
-// Offers: `Turned`, `advance`.
+// Offers: `Turned`, `advance`; `CardPlayer`.
 #![tactic(auto)]
+
+mod player;
 
 ghost use Rattle.std.specs.Prelude.{◌≡◌, ◌++◌, ◌+◌, ◌-◌, ◌<◌, min, length, drop};
 ghost use Rattle.cardline_player.specs.Turn.{at_hand, left_by, buffer_by, turned_by, advanced_of, buffer_of};
@@ -14,6 +16,7 @@ ghost use Rattle.store.specs.Lent.{lent_of};
 ghost use Rattle.playing.specs.declared.Then.TheVariants.{Waits};
 
 use cardline_records::{Progress, Said};
+pub use player::CardPlayer;
 use playing::{Then, keep};
 use text::parts::part;
 

@@ -3,11 +3,15 @@
 // is read into. specs/ has what a piece prints and leaves, whatever a record does; proofs/ that a
 // script played piece by piece is the script played at once.
 //
-// Offers: `Then`, `Said`; `keep`.
+// Offers: `Then`, `Said`; `keep`; `Turn`, `Player`.
 #![tactic(auto)]
+
+mod player;
 
 ghost use Rattle.std.specs.Prelude.{◌≡◌, ◌-◌, min, length};
 ghost use Rattle.playing.specs.Playing.{kept_of};
+
+pub use player::{Player, Turn};
 
 // How a script goes on behind a record: with the next one; not at all; once the record, of which not
 // all bytes are there yet, is whole; or once there is room for its line. The last two did nothing.
