@@ -1,13 +1,13 @@
 // What every other crate shares: the refusals of document 01, the answer of a call that writes into
-// a lent output, and three small tools. The vocabulary of the contracts is in specs/, the laws that
+// a lent output, and four small tools. The vocabulary of the contracts is in specs/, the laws that
 // proofs share in proofs/.
 //
 // Offers: `Refusal`, `number`, `Written`; `SECTOR`, `ERASE_GROUP`, `PROTECTION_GROUP`, `READ_BLOCK`;
-// `least`, `fill`, `copy`.
+// `least`, `fill`, `copy`, `lay`.
 #![tactic(auto)]
 
 ghost use Rattle.std.specs.Prelude.{◌≡◌, min, length, replicate};
-ghost use Rattle.base.specs.Output.{copied};
+ghost use Rattle.base.specs.Output.{copied, fits, laid};
 ghost use Rattle.base.specs.Refusals.{number_of};
 
 // Document 01, "Memory of one card", in bytes: sector, erase group, protection group and physical
@@ -112,4 +112,17 @@ pub fn copy(bytes: &[u8], over: &mut [u8], at: usize)
         over[at + i] = bytes[i];
         i += 1;
     }
+}
+
+// Bytes at the front of a lent output: 6.
+pub fn lay(bytes: &[u8], out: &mut [u8]) -> Written
+    ensures answer { result ≡ fits bytes.now out.old }
+    ensures output { out.new ≡ laid result bytes.now out.old }
+{
+    let n = bytes.len();
+    if out.len() < n {
+        return Written::Refused(Refusal::OutputShort);
+    }
+    out[..n].copy_from_slice(bytes);
+    Written::Bytes(n)
 }

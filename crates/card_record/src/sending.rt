@@ -6,21 +6,8 @@ ghost use Rattle.base.specs.Output.{fits, laid};
 ghost use Rattle.card_record.specs.Sending.{spi_r3_bytes, sent_bytes, sent_written};
 
 use crate::{Registers, Sent};
-use base::{Refusal, Written, copy};
+use base::{Written, lay};
 use wire::{R1, R2, R3};
-
-// Bytes at the front of the output: 6.
-fn lay(bytes: &[u8], out: &mut [u8]) -> Written
-    ensures answer { result ≡ fits bytes.now out.old }
-    ensures output { out.new ≡ laid result bytes.now out.old }
-{
-    let n = bytes.len();
-    if out.len() < n {
-        return Written::Refused(Refusal::OutputShort);
-    }
-    copy(bytes, out, 0);
-    Written::Bytes(n)
-}
 
 // R3 of SPI: R1's byte, and the OCR as R3 of MMC mode has it.
 fn write_spi_r3(first: u8, ocr: u32, out: &mut [u8]) -> Written

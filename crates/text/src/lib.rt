@@ -12,7 +12,7 @@ ghost use Rattle.std.specs.Prelude.{◌≡◌, ◌<◌, ◌≤◌, drop};
 ghost use Rattle.base.specs.Output.{fits, laid};
 ghost use Rattle.text.specs.Text.{digit_of, hex_of, decimal_of};
 
-use base::{Refusal, Written, copy};
+use base::{Refusal, Written, lay};
 
 // The hex digit of a number below 16.
 fn digit(d: u8) -> u8
@@ -62,18 +62,6 @@ fn spell(n: u64) -> Spelt
     Spelt { from: i, text }
 }
 
-// Bytes copied to the front of `out`.
-fn put(bytes: &[u8], out: &mut [u8]) -> Written
-    ensures answer { result ≡ fits bytes.now out.old }
-    ensures output { out.new ≡ laid result bytes.now out.old }
-{
-    if out.len() < bytes.len() {
-        return Written::Refused(Refusal::OutputShort);
-    }
-    copy(bytes, out, 0);
-    Written::Bytes(bytes.len())
-}
-
 // The decimal digits of `n`, with no leading zeros.
 pub fn decimal(n: u64, out: &mut [u8]) -> Written
     ensures answer { result ≡ fits (decimal_of n) out.old }
@@ -82,5 +70,5 @@ pub fn decimal(n: u64, out: &mut [u8]) -> Written
     let spelt = spell(n);
     let from = spelt.from;
     let text = spelt.text;
-    put(&text[from..20], out)
+    lay(&text[from..20], out)
 }
