@@ -2,5 +2,4 @@ pub mod BlockTheorems
 pub mod FrameFlips
 pub mod FrameTheorems
 pub mod InBytes
-pub mod Writing
 pub mod WrongAnswers
