@@ -5,6 +5,7 @@ ghost use Rattle.card_blocks.specs.BlockIn.{block_replied};
 ghost use Rattle.card_blocks.specs.Framing.{beside, started, unstarted, crc_right, response_to};
 
 use crate::{Outcome, Reply, Stepped};
+use base::Refusal;
 use card_record::{Card, Mode, Sent};
 use wire::Checked;
 
@@ -25,26 +26,17 @@ pub fn beside(spi: bool) -> usize
 pub fn started(spi: bool, block: &[u8]) -> bool
     ensures { result ≡ started spi block.now }
 {
-    if !spi {
-        return true;
-    }
-    if block.len() < 1 {
-        return false;
-    }
-    block[0] == START
+    !spi || block.first() == Some(&START)
 }
 
 // A block without its start byte.
 pub fn unstarted(spi: bool, block: &[u8]) -> &[u8]
     ensures { result.now ≡ unstarted spi block.now }
 {
-    if !spi {
-        return block;
+    match block {
+        [_, rest @ ..] if spi => rest,
+        _ => block,
     }
-    if block.len() < 1 {
-        return block;
-    }
-    &block[1..]
 }
 
 // Whether the CRC16 of a payload of 1 to 2,048 bytes lets it pass.
@@ -72,13 +64,8 @@ fn response_to(spi: bool, outcome: Outcome) -> Sent
     }
     match outcome {
         Outcome::Done => Sent::DataResponse(ACCEPTED),
-        Outcome::Wrote(_) => Sent::Nothing,
-        Outcome::Refused(refusal) => {
-            if base::number(refusal) == 17 {
-                return Sent::DataResponse(CRC_WRONG);
-            }
-            Sent::Nothing
-        }
+        Outcome::Refused(Refusal::BlockCrc) => Sent::DataResponse(CRC_WRONG),
+        _ => Sent::Nothing,
     }
 }
 

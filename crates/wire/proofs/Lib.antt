@@ -1,4 +1,5 @@
 pub mod BlockTheorems
+pub mod Closing
 pub mod FrameFlips
 pub mod FrameTheorems
 pub mod InBytes

@@ -192,6 +192,7 @@ pub fn write_r3(r3: R3, out: &mut [u8]) -> Written
 }
 
 // A block written: 5, 6.
+#[tactic(auto, unfolding(crate::specs::Blocks::block_written))]
 pub fn write_block(payload: &[u8], out: &mut [u8]) -> Written
     ensures answer { result ≡ block_written payload.now out.old }
     ensures output { out.new ≡ laid result (block_of payload.now) out.old }
