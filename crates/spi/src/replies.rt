@@ -15,13 +15,11 @@ use status::Errors;
 pub fn response_of(index: u8) -> Response
     ensures { result ≡ response_of index }
 {
-    if index == 13 {
-        return Response::R2;
+    match index {
+        13 => Response::R2,
+        58 => Response::R3,
+        _ => Response::R1,
     }
-    if index == 58 {
-        return Response::R3;
-    }
-    Response::R1
 }
 
 pub fn is_idle(state: State) -> bool
@@ -51,9 +49,8 @@ pub fn left(response: Response, errors: Errors) -> Errors
     ensures { result ≡ left_in response errors }
 {
     match response {
-        Response::R1 => spi_answers::cleared_r1(errors),
+        Response::R1 | Response::R3 => spi_answers::cleared_r1(errors),
         Response::R2 => spi_answers::cleared_r2(errors),
-        Response::R3 => spi_answers::cleared_r1(errors),
     }
 }
 
@@ -62,9 +59,10 @@ pub fn pending(errors: Errors, answered: bool) -> Errors
     ensures { result ≡ pick answered (left_in R1 errors) errors }
 {
     if answered {
-        return left(Response::R1, errors);
+        left(Response::R1, errors)
+    } else {
+        errors
     }
-    errors
 }
 
 // That R1, where it is sent.
@@ -72,9 +70,10 @@ pub fn shown(errors: Errors, idle: bool, answered: bool) -> Sent
     ensures { result ≡ pick answered (sent_in R1 errors idle false) Nothing }
 {
     if answered {
-        return send(Response::R1, errors, idle, false);
+        send(Response::R1, errors, idle, false)
+    } else {
+        Sent::Nothing
     }
-    Sent::Nothing
 }
 
 pub fn in_mmc(response: command::Response) -> Answering
