@@ -17,7 +17,7 @@ ghost use Rattle.spi.specs.Hearing.{unheard, mode_after, as_spi, heard_of, crc_p
 use card_record::{Link, Mode, Sent};
 use command::{Change, Met};
 use moves::Move;
-use replies::{in_mmc, in_spi, is_idle, left_by, pending, response_of, sent_by, shown};
+use replies::{is_idle, left_by, pending, response_of, sent_by, shown};
 use states::Column;
 use status::{ErrorBit, Errors};
 
@@ -129,7 +129,7 @@ fn decide(mode: Mode, selected: bool, link: Link, met: Met, index: u8, argument:
     if as_spi(mode, selected, index) {
         let row = spi_moves::row_of(index);
         return Decision {
-            answering: in_spi(response_of(index)),
+            answering: Answering::from(response_of(index)),
             next: spi_moves::next(row, states::column_of(link.state)),
         };
     }
@@ -141,7 +141,7 @@ fn decide(mode: Mode, selected: bool, link: Link, met: Met, index: u8, argument:
     }
     let decided = command::decide(link, met, index, argument);
     Decision {
-        answering: in_mmc(command::response_of(decided.row)),
+        answering: Answering::from(command::response_of(decided.row)),
         next: decided.next,
     }
 }

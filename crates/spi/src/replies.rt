@@ -76,24 +76,28 @@ pub fn shown(errors: Errors, idle: bool, answered: bool) -> Sent
     }
 }
 
-pub fn in_mmc(response: command::Response) -> Answering
-    ensures { result ≡ in_mmc response }
-{
-    match response {
-        command::Response::Nothing => Answering::Nothing,
-        command::Response::R1 => Answering::R1,
-        command::Response::R2 => Answering::R2,
-        command::Response::R3 => Answering::R3,
+impl From<command::Response> for Answering {
+    ghost from_gives = { λ response answering. answering ≡ in_mmc response };
+
+    fn from(response: command::Response) -> Answering {
+        match response {
+            command::Response::Nothing => Answering::Nothing,
+            command::Response::R1 => Answering::R1,
+            command::Response::R2 => Answering::R2,
+            command::Response::R3 => Answering::R3,
+        }
     }
 }
 
-pub fn in_spi(response: Response) -> Answering
-    ensures { result ≡ in_spi response }
-{
-    match response {
-        Response::R1 => Answering::SpiR1,
-        Response::R2 => Answering::SpiR2,
-        Response::R3 => Answering::SpiR3,
+impl From<Response> for Answering {
+    ghost from_gives = { λ response answering. answering ≡ in_spi response };
+
+    fn from(response: Response) -> Answering {
+        match response {
+            Response::R1 => Answering::SpiR1,
+            Response::R2 => Answering::SpiR2,
+            Response::R3 => Answering::SpiR3,
+        }
     }
 }
 
