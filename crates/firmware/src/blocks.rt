@@ -61,20 +61,14 @@ pub extern "C" fn mmc_parts_block_in(
     }
     let card = card_of(*numbers, *cid, *csd, *password);
     let stepped = card_blocks::taken_in(card, block, memory, map);
-    let next = stepped.card;
-    let reply = stepped.reply;
-    let outcome = reply.outcome;
-    let responded = reply.sent;
-    *sent = send_byte(responded, response);
-    let number = outcome_number(outcome);
+    *sent = send_byte(stepped.reply.sent, response);
+    let number = outcome_number(stepped.reply.outcome);
     if leaves_record(number) {
         return number;
     }
-    let link = next.link;
-    let mode = next.mode;
-    let lock = next.lock;
-    let stored = lock.password;
-    tell_link_and_lock(link, mode, lock, numbers);
+    let next = stepped.card;
+    let stored = next.lock.password;
+    tell_link_and_lock(next.link, next.mode, next.lock, numbers);
     *password = stored;
     number
 }
@@ -117,16 +111,11 @@ pub extern "C" fn mmc_parts_block_out(
     }
     let card = card_of(*numbers, *cid, *csd, *password);
     let stepped = card_blocks::given_out(card, memory, map, out);
-    let next = stepped.card;
-    let reply = stepped.reply;
-    let outcome = reply.outcome;
-    *written = wrote(outcome);
-    let number = outcome_number(outcome);
+    *written = wrote(stepped.reply.outcome);
+    let number = outcome_number(stepped.reply.outcome);
     if leaves_record(number) {
         return number;
     }
-    let link = next.link;
-    let mode = next.mode;
-    tell_link(link, mode, numbers);
+    tell_link(stepped.card.link, stepped.card.mode, numbers);
     number
 }

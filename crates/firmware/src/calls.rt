@@ -41,17 +41,14 @@ pub extern "C" fn mmc_parts_make(
 {
     let made = card_record::make(*identifier, *specifics, ocr, secret, memory, map);
     let card = made.card;
-    let making = made.making;
-    let registers = card.registers;
-    let lock = card.lock;
-    let made_cid = registers.cid;
-    let made_csd = registers.csd;
-    let made_password = lock.password;
+    let made_cid = card.registers.cid;
+    let made_csd = card.registers.csd;
+    let made_password = card.lock.password;
     tell_card(card, numbers);
     *cid = made_cid;
     *csd = made_csd;
     *password = made_password;
-    making_number(making)
+    making_number(made.making)
 }
 
 // Power-on, from any state: never refused.
@@ -68,10 +65,7 @@ pub extern "C" fn mmc_parts_power_on(
 {
     let card = card_of(*numbers, *cid, *csd, *password);
     let next = card_record::power_on(card);
-    let link = next.link;
-    let mode = next.mode;
-    let lock = next.lock;
-    tell_link_and_lock(link, mode, lock, numbers);
+    tell_link_and_lock(next.link, next.mode, next.lock, numbers);
 }
 
 // Work done: never refused. The state's number is altered in its place, and no record taken in.
