@@ -61,14 +61,21 @@ pub extern "C" fn mmc_parts_block_in(
     }
     let card = card_of(*numbers, *cid, *csd, *password);
     let stepped = card_blocks::taken_in(card, block, memory, map);
-    *sent = send_byte(stepped.reply.sent, response);
-    let number = outcome_number(stepped.reply.outcome);
+    // Each part has a name, since fields read through `stepped` where they are told cost 222 bytes of code.
+    let next = stepped.card;
+    let reply = stepped.reply;
+    let outcome = reply.outcome;
+    let responded = reply.sent;
+    *sent = send_byte(responded, response);
+    let number = outcome_number(outcome);
     if leaves_record(number) {
         return number;
     }
-    let next = stepped.card;
-    let stored = next.lock.password;
-    tell_link_and_lock(next.link, next.mode, next.lock, numbers);
+    let link = next.link;
+    let mode = next.mode;
+    let lock = next.lock;
+    let stored = lock.password;
+    tell_link_and_lock(link, mode, lock, numbers);
     *password = stored;
     number
 }
