@@ -1,13 +1,13 @@
 // What every other crate shares: the refusals of document 01, the error of every call that may be
-// refused, and three small tools. The vocabulary of the contracts is in specs/, the laws that
+// refused, and four small tools. The vocabulary of the contracts is in specs/, the laws that
 // proofs share in proofs/.
 //
 // Offers: `Refusal`, `number`; `SECTOR`, `ERASE_GROUP`, `PROTECTION_GROUP`, `READ_BLOCK`;
-// `least`, `fill`, `copy`.
+// `least`, `fill`, `copy`, `lay`.
 #![tactic(auto)]
 
 ghost use Rattle.std.specs.Prelude.{◌≡◌, min, length, replicate};
-ghost use Rattle.base.specs.Output.{copied};
+ghost use Rattle.base.specs.Output.{copied, fits, laid};
 ghost use Rattle.base.specs.Refusals.{number_of};
 
 // Document 01, "Memory of one card", in bytes: sector, erase group, protection group and physical
@@ -99,4 +99,17 @@ pub fn copy(bytes: &[u8], over: &mut [u8], at: usize)
     let from = at.min(over.len());
     let n = bytes.len().min(over.len() - from);
     over[from..from + n].copy_from_slice(&bytes[..n]);
+}
+
+// Bytes at the front of a lent output: 6.
+pub fn lay(bytes: &[u8], out: &mut [u8]) -> Result<usize, Refusal>
+    ensures answer { result ≡ fits bytes.now out.old }
+    ensures output { out.new ≡ laid result bytes.now out.old }
+{
+    let n = bytes.len();
+    if out.len() < n {
+        return Err(Refusal::OutputShort);
+    }
+    out[..n].copy_from_slice(bytes);
+    Ok(n)
 }

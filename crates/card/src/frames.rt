@@ -18,12 +18,13 @@ use wire::Fields;
 fn tell_spared(link: Link, spared: bool) -> Link
     ensures { result ≡ skip_told link spared }
 {
-    if !spared {
-        return link;
-    }
-    Link {
-        errors: status::set(link.errors, ErrorBit::WpEraseSkip),
-        ..link
+    if spared {
+        Link {
+            errors: status::set(link.errors, ErrorBit::WpEraseSkip),
+            ..link
+        }
+    } else {
+        link
     }
 }
 
@@ -44,33 +45,19 @@ pub fn heard(
     ensures lent { lent_of memory.new map.new ≡ changed link.tags whole (heard_of mode selected link met index argument).change (lent_of memory.old map.old) }
 {
     let given = spi::hear(mode, selected, link, met, index, argument);
-    let after = given.mode;
     let next = given.link;
-    let sent = given.sent;
-    let change = given.change;
-    match change {
-        Change::Nothing => Answered {
-            mode: after,
-            link: next,
-            sent,
-        },
+    let told = match given.change {
+        Change::Nothing => next,
         Change::Protect { group, on } => {
             store::protect(map, group, on);
-            Answered {
-                mode: after,
-                link: next,
-                sent,
-            }
+            next
         }
-        Change::Erase => {
-            let tags = link.tags;
-            let spared = store::erase(memory, map, tags, whole);
-            Answered {
-                mode: after,
-                link: tell_spared(next, spared),
-                sent,
-            }
-        }
+        Change::Erase => tell_spared(next, store::erase(memory, map, link.tags, whole)),
+    };
+    Answered {
+        mode: given.mode,
+        link: told,
+        sent: given.sent,
     }
 }
 
@@ -88,31 +75,25 @@ fn commanded(
     ensures lent { lent_of memory.new map.new ≡ changed_by card (heard_of card.mode selected card.link (met_by card wins) index argument).change (lent_of memory.old map.old) }
 {
     let registers = card.registers;
-    let csd = registers.csd;
-    let whole = card_record::csd_protects(csd);
+    let whole = card_record::csd_protects(registers.csd);
     let met = Met {
         ocr: registers.ocr,
         groups: registers.groups,
         locked: card.lock.locked,
         wins,
     };
-    let link = card.link;
-    let mode = card.mode;
     let given = heard(
-        mode, selected, link, met, whole, index, argument, memory, map,
+        card.mode, selected, card.link, met, whole, index, argument, memory, map,
     );
-    let next = given.link;
-    let after = given.mode;
-    let sent = given.sent;
     Stepped {
         card: Card {
-            link: next,
-            mode: after,
+            link: given.link,
+            mode: given.mode,
             ..card
         },
         reply: Reply {
             outcome: Ok(None),
-            sent,
+            sent: given.sent,
         },
     }
 }
@@ -121,21 +102,16 @@ fn commanded(
 fn damaged(card: Card, selected: bool) -> Stepped
     ensures { result ≡ (commanded card (Err (by 3)) (damaged_of card.mode selected card.link)).stepped }
 {
-    let mode = card.mode;
-    let link = card.link;
-    let given = spi::damaged(mode, selected, link);
-    let next = given.link;
-    let after = given.mode;
-    let sent = given.sent;
+    let given = spi::damaged(card.mode, selected, card.link);
     Stepped {
         card: Card {
-            link: next,
-            mode: after,
+            link: given.link,
+            mode: given.mode,
             ..card
         },
         reply: Reply {
             outcome: Err(Refusal::FrameCrc),
-            sent,
+            sent: given.sent,
         },
     }
 }

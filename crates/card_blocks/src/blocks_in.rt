@@ -8,7 +8,7 @@ ghost use Rattle.store.specs.Lent.{lent_of, seen};
 use crate::framing::{beside, crc_right, reply, started, unstarted};
 use crate::replies::refuse;
 use crate::{BlockJudged, Stepped, Storing};
-use base::{Refusal, SECTOR, copy};
+use base::{Refusal, SECTOR};
 use card_record::{Card, Link};
 use lock::Answer;
 use states::{Incoming, State};
@@ -22,9 +22,8 @@ fn awaited_length(card: Card, incoming: Incoming) -> usize
     ensures answer { result ≡ awaited_length card incoming }
 {
     match incoming {
-        Incoming::One(_) => SECTOR_LENGTH,
-        Incoming::Many(_) => SECTOR_LENGTH,
-        Incoming::LockRequest => card_record::read_length(card.link.length) as usize,
+        Incoming::One(_) | Incoming::Many(_) => SECTOR_LENGTH,
+        Incoming::LockRequest => usize::from(card_record::read_length(card.link.length)),
     }
 }
 
@@ -34,7 +33,7 @@ fn kept(block: &[u8]) -> [u8; 512]
     ensures { result ≡ take 512 block.now }
 {
     let mut bytes = [0; 512];
-    copy(&block[0..SECTOR_LENGTH], &mut bytes, 0);
+    bytes.copy_from_slice(&block[..SECTOR_LENGTH]);
     bytes
 }
 
@@ -42,9 +41,8 @@ fn after_refused(incoming: Incoming) -> State
     ensures { result ≡ after_refused incoming }
 {
     match incoming {
-        Incoming::One(_) => State::Tran,
         Incoming::Many(at) => State::Rcv(Incoming::Many(at)),
-        Incoming::LockRequest => State::Tran,
+        Incoming::One(_) | Incoming::LockRequest => State::Tran,
     }
 }
 
@@ -53,9 +51,8 @@ fn after_stored(incoming: Incoming, next: u32) -> State
     ensures { result ≡ after_stored incoming next }
 {
     match incoming {
-        Incoming::One(_) => State::Prg,
         Incoming::Many(_) => State::Rcv(Incoming::Many(next)),
-        Incoming::LockRequest => State::Prg,
+        Incoming::One(_) | Incoming::LockRequest => State::Prg,
     }
 }
 
@@ -69,6 +66,7 @@ fn with_fault(errors: Errors, fault: Option<ErrorBit>) -> Errors
 }
 
 // A refused block: the move and the error bit that document 01 gives it, and nothing stored.
+#[tactic(auto, unfolding(crate::specs::BlockIn::block_refused))]
 fn block_refused(
     card: Card,
     incoming: Incoming,
@@ -94,6 +92,7 @@ fn block_refused(
 }
 
 // A good block: the state that it leads to, and what is to be stored.
+#[tactic(auto, unfolding(crate::specs::BlockIn::block_good))]
 fn block_good(card: Card, state: State, storing: Storing) -> BlockJudged
     ensures { result ≡ block_good card state storing }
 {
@@ -109,6 +108,7 @@ fn block_good(card: Card, state: State, storing: Storing) -> BlockJudged
 }
 
 // A write's block: 18, 19.
+#[tactic(auto, unfolding(crate::specs::BlockIn::write_judged))]
 fn write_judged(card: Card, incoming: Incoming, sector: u32, map: &[u8]) -> BlockJudged
     ensures { result ≡ write_judged card incoming sector map.now }
 {
@@ -162,17 +162,14 @@ fn lock_judged(card: Card, payload: &[u8]) -> BlockJudged
 fn carried_out(card: Card, incoming: Incoming, payload: &[u8], map: &[u8]) -> BlockJudged
     ensures { result ≡ carried_out card incoming payload.now map.now }
 {
-    let at = match incoming {
-        Incoming::One(at) => at,
-        Incoming::Many(at) => at,
-        Incoming::LockRequest => {
-            return lock_judged(card, payload);
-        }
-    };
-    write_judged(card, incoming, at / SECTOR, map)
+    match incoming {
+        Incoming::One(at) | Incoming::Many(at) => write_judged(card, incoming, at / SECTOR, map),
+        Incoming::LockRequest => lock_judged(card, payload),
+    }
 }
 
 // An awaited block of the right length behind its start byte: 17.
+#[tactic(auto, unfolding(crate::specs::BlockIn::checked_judged))]
 fn checked_judged(card: Card, incoming: Incoming, block: &[u8], map: &[u8]) -> BlockJudged
     requires { (3 ≤ length block.now) × (length block.now ≤ 2050) }
     ensures { result ≡ checked_judged card incoming block.now map.now }
@@ -181,23 +178,19 @@ fn checked_judged(card: Card, incoming: Incoming, block: &[u8], map: &[u8]) -> B
         return block_refused(card, incoming, Refusal::BlockCrc, None);
     }
     let n = block.len() - 2;
-    carried_out(card, incoming, &block[0..n], map)
+    carried_out(card, incoming, &block[..n], map)
 }
 
 // An awaited block: 16.
+#[tactic(auto, unfolding(crate::specs::BlockIn::awaited_judged))]
 fn awaited_judged(card: Card, incoming: Incoming, block: &[u8], map: &[u8]) -> BlockJudged
     ensures { result ≡ awaited_judged card incoming block.now map.now }
 {
     let spi = card.mode.spi;
-    let n = awaited_length(card, incoming);
-    if block.len() != n + beside(spi) {
+    if block.len() != awaited_length(card, incoming) + beside(spi) || !started(spi, block) {
         return wrong_length(card, incoming);
     }
-    if !started(spi, block) {
-        return wrong_length(card, incoming);
-    }
-    let given = unstarted(spi, block);
-    checked_judged(card, incoming, given, map)
+    checked_judged(card, incoming, unstarted(spi, block), map)
 }
 
 fn wrong_length(card: Card, incoming: Incoming) -> BlockJudged
@@ -225,16 +218,8 @@ fn state_judged(card: Card, state: State, block: &[u8], map: &[u8]) -> BlockJudg
     ensures { result ≡ state_judged card state block.now map.now }
 {
     match state {
-        State::Idle => unread(card, Refusal::NoBlock),
-        State::Ready => unread(card, Refusal::NoBlock),
-        State::Ident => unread(card, Refusal::NoBlock),
-        State::Stby => unread(card, Refusal::NoBlock),
-        State::Tran => unread(card, Refusal::NoBlock),
-        State::Data(_) => unread(card, Refusal::NoBlock),
         State::Rcv(incoming) => awaited_judged(card, incoming, block, map),
-        State::Prg => unread(card, Refusal::NoBlock),
-        State::Dis => unread(card, Refusal::NoBlock),
-        State::Ina => unread(card, Refusal::NoBlock),
+        _ => unread(card, Refusal::NoBlock),
     }
 }
 

@@ -25,26 +25,17 @@ pub fn beside(spi: bool) -> usize
 pub fn started(spi: bool, block: &[u8]) -> bool
     ensures { result ≡ started spi block.now }
 {
-    if !spi {
-        return true;
-    }
-    if block.len() < 1 {
-        return false;
-    }
-    block[0] == START
+    !spi || block.first() == Some(&START)
 }
 
 // A block without its start byte.
 pub fn unstarted(spi: bool, block: &[u8]) -> &[u8]
     ensures { result.now ≡ unstarted spi block.now }
 {
-    if !spi {
-        return block;
+    match block {
+        [_, rest @ ..] if spi => rest,
+        _ => block,
     }
-    if block.len() < 1 {
-        return block;
-    }
-    &block[1..]
 }
 
 // Whether the CRC16 of a payload of 1 to 2,048 bytes lets it pass.
@@ -63,13 +54,8 @@ fn response_to(spi: bool, outcome: Result<Option<usize>, Refusal>) -> Sent
     }
     match outcome {
         Ok(None) => Sent::DataResponse(ACCEPTED),
-        Ok(Some(_)) => Sent::Nothing,
-        Err(refusal) => {
-            if refusal == Refusal::BlockCrc {
-                return Sent::DataResponse(CRC_WRONG);
-            }
-            Sent::Nothing
-        }
+        Err(Refusal::BlockCrc) => Sent::DataResponse(CRC_WRONG),
+        _ => Sent::Nothing,
     }
 }
 

@@ -17,10 +17,7 @@ const SECTOR_SPAN: u64 = SECTOR as u64;
 fn length_fault(argument: u32) -> Option<ErrorBit>
     ensures { result ≡ length_fault argument }
 {
-    if argument < 1 {
-        return Some(ErrorBit::BlockLenError);
-    }
-    if LONGEST_BLOCK < argument {
+    if argument < 1 || LONGEST_BLOCK < argument {
         return Some(ErrorBit::BlockLenError);
     }
     None
@@ -30,8 +27,8 @@ fn length_fault(argument: u32) -> Option<ErrorBit>
 fn read_fault(argument: u32, length: u16, size: u32) -> Option<ErrorBit>
     ensures { result ≡ read_fault argument length size }
 {
-    let end = argument as u64 + length as u64;
-    if (size as u64) < end {
+    let end = u64::from(argument) + u64::from(length);
+    if u64::from(size) < end {
         return Some(ErrorBit::OutOfRange);
     }
     if card_record::crosses(argument, length) {
@@ -47,8 +44,8 @@ fn write_fault(argument: u32, length: u16, size: u32) -> Option<ErrorBit>
     if length != SECTOR_LENGTH {
         return Some(ErrorBit::BlockLenError);
     }
-    let end = argument as u64 + SECTOR_SPAN;
-    if (size as u64) < end {
+    let end = u64::from(argument) + SECTOR_SPAN;
+    if u64::from(size) < end {
         return Some(ErrorBit::OutOfRange);
     }
     if argument % SECTOR != 0 {
@@ -78,19 +75,16 @@ fn address_fault(argument: u32) -> Option<ErrorBit>
 }
 
 // For all commands but the erase commands.
+#[tactic(auto, unfolding(crate::specs::Arguments::argument_fault))]
 pub fn argument_fault(index: u8, argument: u32, length: u16, size: u32) -> Option<ErrorBit>
     ensures answer { result ≡ argument_fault index argument length size }
 {
     match index {
         3 => address_fault(argument),
         16 => length_fault(argument),
-        17 => read_fault(argument, length, size),
-        18 => read_fault(argument, length, size),
-        24 => write_fault(argument, length, size),
-        25 => write_fault(argument, length, size),
-        28 => group_fault(argument, size),
-        29 => group_fault(argument, size),
-        30 => group_fault(argument, size),
+        17 | 18 => read_fault(argument, length, size),
+        24 | 25 => write_fault(argument, length, size),
+        28 | 29 | 30 => group_fault(argument, size),
         _ => None,
     }
 }

@@ -73,30 +73,22 @@ pub enum Response {
     R3,
 }
 
+#[tactic(auto, unfolding(crate::specs::Answers::response_of))]
 pub fn response_of(row: Row) -> Response
     ensures answer { result ≡ response_of row }
 {
     match row {
-        Row::GoIdleState => Response::Nothing,
-        Row::OpCondAsked => Response::R3,
-        Row::OpCondShared => Response::R3,
-        Row::OpCondApart => Response::Nothing,
-        Row::AllSendCidWon => Response::R2,
-        Row::AllSendCidLost => Response::Nothing,
-        Row::SetRelativeAddr => Response::R1,
-        Row::SetDsr => Response::Nothing,
-        Row::SelectCard => Response::R1,
-        Row::DeselectCard => Response::Nothing,
-        Row::SendRegister => Response::R2,
-        Row::StopTransmission => Response::R1,
-        Row::SendStatus => Response::R1,
-        Row::GoInactiveState => Response::Nothing,
-        Row::SetOrTag => Response::R1,
-        Row::Read => Response::R1,
-        Row::Write => Response::R1,
-        Row::Program => Response::R1,
-        Row::OtherAddress => Response::Nothing,
-        Row::Unsupported => Response::Nothing,
+        Row::OpCondAsked | Row::OpCondShared => Response::R3,
+        Row::AllSendCidWon | Row::SendRegister => Response::R2,
+        Row::SetRelativeAddr
+        | Row::SelectCard
+        | Row::StopTransmission
+        | Row::SendStatus
+        | Row::SetOrTag
+        | Row::Read
+        | Row::Write
+        | Row::Program => Response::R1,
+        _ => Response::Nothing,
     }
 }
 
@@ -104,10 +96,7 @@ pub fn response_of(row: Row) -> Response
 fn register(index: u8) -> Sent
     ensures { result ≡ register_sent index }
 {
-    if index == 9 {
-        return Sent::Csd;
-    }
-    Sent::Cid
+    if index == 9 { Sent::Csd } else { Sent::Cid }
 }
 
 pub fn respond(response: Response, index: u8, status: u32) -> Sent
@@ -126,10 +115,8 @@ pub fn left(response: Response, errors: Errors) -> Errors
     ensures answer { result ≡ left_of response errors }
 {
     match response {
-        Response::Nothing => status::clear_command_bits(errors),
         Response::R1 => status::none(),
-        Response::R2 => status::clear_command_bits(errors),
-        Response::R3 => status::clear_command_bits(errors),
+        _ => status::clear_command_bits(errors),
     }
 }
 
@@ -159,34 +146,32 @@ pub fn damaged(link: Link) -> Link
 }
 
 // What a taken command answers, from the state in which it came, and what it leaves.
+#[tactic(auto, unfolding(crate::specs::Answers::answered))]
 fn answer(acted: Acted, response: Response, index: u8, locked: bool, on: Column) -> Commanded
     ensures { result ≡ answered acted response index locked on }
 {
     let errors = acted.errors;
     let link = acted.link;
-    let change = acted.change;
-    let status = status::word(errors, locked, on);
     Commanded {
         link: Link {
             errors: left(response, errors),
             ..link
         },
-        sent: respond(response, index, status),
-        change,
+        sent: respond(response, index, status::word(errors, locked, on)),
+        change: acted.change,
     }
 }
 
 // A command that has a legal move to a column.
+#[tactic(auto, unfolding(crate::specs::Command::taken_of))]
 fn take(link: Link, met: Met, asked: Received, row: Row, column: Column) -> Commanded
     ensures { result ≡ taken_of link met asked row column }
 {
     let index = asked.index;
-    let locked = met.locked;
-    let state = link.state;
-    let on = states::column_of(state);
+    let on = states::column_of(link.state);
     let response = response_of(row);
     let acted = obey::act(link, met, index, asked.argument, column);
-    answer(acted, response, index, locked, on)
+    answer(acted, response, index, met.locked, on)
 }
 
 // A command as it meets a card.
@@ -209,8 +194,7 @@ pub fn decide(link: Link, met: Met, index: u8, argument: u32) -> Decided
 {
     let asked = received(link, met, index, argument);
     let row = moves::row_of(asked);
-    let state = link.state;
-    let next = moves::next(row, states::column_of(state));
+    let next = moves::next(row, states::column_of(link.state));
     Decided { row, next }
 }
 
@@ -218,13 +202,7 @@ pub fn decide(link: Link, met: Met, index: u8, argument: u32) -> Decided
 pub fn leaves_alone(decided: Decided) -> bool
     ensures answer { result ≡ leaves_alone decided }
 {
-    let next = decided.next;
-    match next {
-        Move::Ignored => true,
-        Move::Silent => true,
-        Move::Illegal => false,
-        Move::To(_) => false,
-    }
+    matches!(decided.next, Move::Ignored | Move::Silent)
 }
 
 // What was decided, done.
@@ -232,15 +210,12 @@ pub fn follow(link: Link, met: Met, index: u8, argument: u32, decided: Decided) 
     ensures answer { result ≡ moved_by link met (received_of link met index argument) decided.row decided.next }
 {
     let asked = received(link, met, index, argument);
-    let row = decided.row;
-    let next = decided.next;
-    match next {
-        Move::Ignored => silent(link),
-        Move::Silent => silent(link),
+    match decided.next {
+        Move::Ignored | Move::Silent => silent(link),
         Move::Illegal => silent(Link {
             errors: status::set(link.errors, ErrorBit::IllegalCommand),
             ..link
         }),
-        Move::To(column) => take(link, met, asked, row, column),
+        Move::To(column) => take(link, met, asked, decided.row, column),
     }
 }

@@ -18,39 +18,23 @@ use tags::{Kind, Tagging, Tags};
 fn drops_tags(index: u8) -> bool
     ensures { result ≡ drops_tags index }
 {
-    match index {
-        0 => false,
-        13 => false,
-        32 => false,
-        33 => false,
-        35 => false,
-        36 => false,
-        38 => false,
-        _ => true,
-    }
+    !matches!(index, 0 | 13 | 32 | 33 | 35 | 36 | 38)
 }
 
 // Check 5: whether a card takes a command in spite of its lock. Of the block reads, CMD16 to 18, the
 // first alone does: it sets the block length, and reads nothing. It is asked for by `<=`, since with
 // `==` the compiler copies what a command does once more for CMD16, 125 bytes.
+#[tactic(auto, unfolding(moves::specs::Classes::class_of))]
 fn passes_lock(locked: bool, index: u8) -> bool
     ensures { result ≡ passes_lock locked index }
 {
-    if !locked {
+    if !locked || index == 42 {
         return true;
     }
-    if index == 42 {
-        return true;
-    }
-    let class = moves::class_of(index);
-    match class {
+    match moves::class_of(index) {
         Class::Basic => true,
         Class::BlockRead => index <= 16,
-        Class::BlockWrite => false,
-        Class::WriteProtection => false,
-        Class::Erase => false,
-        Class::Lock => false,
-        Class::Unsupported => false,
+        _ => false,
     }
 }
 
@@ -71,6 +55,7 @@ fn erase_tagging(tags: Tags) -> Tagging
 }
 
 // Check 6 with the tags that a command leaves.
+#[tactic(auto, unfolding(crate::specs::Obey::tagging_of))]
 fn tagging(link: Link, size: u32, index: u8, argument: u32) -> Tagging
     ensures { result ≡ tagging_of link size index argument }
 {
@@ -93,6 +78,7 @@ fn tagging(link: Link, size: u32, index: u8, argument: u32) -> Tagging
 }
 
 // Checks 5 and 6, with the tags that the command leaves.
+#[tactic(auto, unfolding(crate::specs::Obey::judged_of))]
 fn judge(link: Link, groups: u16, locked: bool, index: u8, argument: u32) -> Tagging
     ensures { result ≡ judged_of link groups locked index argument }
 {
@@ -106,16 +92,15 @@ fn judge(link: Link, groups: u16, locked: bool, index: u8, argument: u32) -> Tag
 }
 
 // The error bits with 13 where the command drops tags.
+#[tactic(auto, unfolding(crate::specs::Obey::reset_told))]
 fn reset_told(link: Link, index: u8) -> Errors
     ensures { result ≡ reset_told link index }
 {
-    if !drops_tags(index) {
-        return link.errors;
+    if drops_tags(index) && tags::any(link.tags) {
+        status::set(link.errors, ErrorBit::EraseReset)
+    } else {
+        link.errors
     }
-    if !tags::any(link.tags) {
-        return link.errors;
-    }
-    status::set(link.errors, ErrorBit::EraseReset)
 }
 
 // The state of a column: in data and rcv it is the one that carries the work.
@@ -128,8 +113,7 @@ fn state_at(column: Column, work: State) -> State
         Column::Ident => State::Ident,
         Column::Stby => State::Stby,
         Column::Tran => State::Tran,
-        Column::Data => work,
-        Column::Rcv => work,
+        Column::Data | Column::Rcv => work,
         Column::Prg => State::Prg,
         Column::Dis => State::Dis,
         Column::Ina => State::Ina,
@@ -137,6 +121,7 @@ fn state_at(column: Column, work: State) -> State
 }
 
 // The work that a command begins; any other goes on with what there is.
+#[tactic(auto, unfolding(crate::specs::Obey::awaited_by))]
 fn awaited_by(index: u8, argument: u32, state: State) -> State
     ensures { result ≡ awaited_by index argument state }
 {
@@ -172,12 +157,12 @@ fn length_after(index: u8, argument: u32, length: u16) -> u16
 }
 
 // A command without a fault obeyed: it leads to a column, and leaves these tags.
+#[tactic(auto, unfolding(crate::specs::Obey::obeyed))]
 fn obey(link: Link, index: u8, argument: u32, column: Column, tags: Tags) -> Link
     ensures { result ≡ obeyed link index argument column tags }
 {
-    let state = link.state;
     Link {
-        state: state_at(column, awaited_by(index, argument, state)),
+        state: state_at(column, awaited_by(index, argument, link.state)),
         address: address_after(index, argument, link.address),
         length: length_after(index, argument, link.length),
         tags,
@@ -186,6 +171,7 @@ fn obey(link: Link, index: u8, argument: u32, column: Column, tags: Tags) -> Lin
 }
 
 // What a command without a fault changes in what is lent.
+#[tactic(auto, unfolding(crate::specs::Obey::change_of))]
 fn change_of(index: u8, argument: u32) -> Change
     ensures { result ≡ change_of index argument }
 {
@@ -205,6 +191,7 @@ fn change_of(index: u8, argument: u32) -> Change
 
 // What a taken command does, which the table leads to a column: CMD0 resets; with a fault the
 // command only tells its bit, else it is obeyed.
+#[tactic(auto, unfolding(crate::specs::Obey::acted_of, crate::specs::Obey::after_checks))]
 pub fn act(link: Link, met: Met, index: u8, argument: u32, column: Column) -> Acted
     ensures answer { result ≡ acted_of link met index argument column }
 {
@@ -218,8 +205,7 @@ pub fn act(link: Link, met: Met, index: u8, argument: u32, column: Column) -> Ac
     let judged = judge(link, met.groups, met.locked, index, argument);
     let errors = reset_told(link, index);
     let tags = judged.tags;
-    let fault = judged.error;
-    match fault {
+    match judged.error {
         None => Acted {
             link: obey(link, index, argument, column, tags),
             errors,

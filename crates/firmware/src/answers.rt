@@ -11,7 +11,7 @@ pub fn outcome_number(outcome: Result<Option<usize>, Refusal>) -> u8
 {
     match outcome {
         Ok(None) => 0,
-        Ok(Some(_)) => 0,
+        Ok(Some(_))) => 0,
         Err(refusal) => base::number(refusal),
     }
 }
@@ -21,22 +21,7 @@ pub fn outcome_number(outcome: Result<Option<usize>, Refusal>) -> u8
 pub fn leaves_record(number: u8) -> bool
     ensures answer { result ≡ leaves_record number }
 {
-    if number == 1 {
-        return true;
-    }
-    if number == 2 {
-        return true;
-    }
-    if number == 6 {
-        return true;
-    }
-    if number == 12 {
-        return true;
-    }
-    if number == 15 {
-        return true;
-    }
-    false
+    matches!(number, 1 | 2 | 6 | 12 | 15)
 }
 
 // The number of what became of a make.
@@ -68,20 +53,10 @@ pub fn send_byte(sent: Sent, out: &mut [u8]) -> usize
     ensures output { out.new ≡ fronted (byte_sent sent) out.old }
 {
     match sent {
-        Sent::Nothing => 0,
-        Sent::Status { .. } => 0,
-        Sent::Cid => 0,
-        Sent::Csd => 0,
-        Sent::Ocr => 0,
-        Sent::SpiR1(first) => {
-            out[0] = first;
+        Sent::SpiR1(byte) | Sent::DataResponse(byte) => {
+            out[0] = byte;
             1
         }
-        Sent::SpiR2 { .. } => 0,
-        Sent::SpiR3(_) => 0,
-        Sent::DataResponse(response) => {
-            out[0] = response;
-            1
-        }
+        _ => 0,
     }
 }

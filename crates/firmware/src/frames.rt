@@ -44,11 +44,8 @@ fn tell_damaged(numbers: &mut [u32; 13], selected: bool, answer: &mut [u8; 17]) 
     let mode = mode_of(*numbers);
     let link = link_of(*numbers);
     let damaged = spi::damaged(mode, selected, link);
-    let next = damaged.link;
-    let errors = next.errors;
-    let sent = damaged.sent;
-    tell_errors(errors, numbers);
-    send_byte(sent, answer)
+    tell_errors(damaged.link.errors, numbers);
+    send_byte(damaged.sent, answer)
 }
 
 // What a card sends, written to the front of an answer: the longest fits. The answer is how many
@@ -118,12 +115,9 @@ fn hear(
     let heard = card::heard(
         mode, selected, link, met, whole, index, argument, memory, map,
     );
-    let next = heard.link;
-    let after = heard.mode;
-    let sent = heard.sent;
-    tell_link(next, after, numbers);
+    tell_link(heard.link, heard.mode, numbers);
     let registers = registers_of(*numbers, *cid, *csd);
-    send(registers, sent, answer)
+    send(registers, heard.sent, answer)
 }
 
 // A frame: 12, 1, 2, 3. `won` says whether the unit won the line, as a unit that is alone on its line

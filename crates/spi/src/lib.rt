@@ -17,7 +17,7 @@ ghost use Rattle.spi.specs.Hearing.{unheard, mode_after, as_spi, heard_of, crc_p
 use card_record::{Link, Mode, Sent};
 use command::{Change, Met};
 use moves::Move;
-use replies::{in_mmc, in_spi, is_idle, left_by, pending, response_of, sent_by, shown};
+use replies::{is_idle, left_by, pending, response_of, sent_by, shown};
 use states::{Column, State};
 use status::{ErrorBit, Errors};
 
@@ -74,8 +74,7 @@ fn unheard(mode: Mode, link: Link) -> Heard
 fn untaken(mode: Mode, link: Link, errors: Errors, answered: bool) -> Heard
     ensures { result ≡ untaken mode link errors answered }
 {
-    let state = link.state;
-    let idle = is_idle(state);
+    let idle = is_idle(link.state);
     Heard {
         mode,
         link: Link {
@@ -91,19 +90,17 @@ fn untaken(mode: Mode, link: Link, errors: Errors, answered: bool) -> Heard
 fn mode_after(mode: Mode, index: u8, argument: u32) -> Mode
     ensures { result ≡ mode_after mode index argument }
 {
-    if index == 0 {
-        return Mode {
+    match index {
+        0 => Mode {
             spi: true,
             checks: false,
-        };
-    }
-    if index == 59 {
-        return Mode {
+        },
+        59 => Mode {
             checks: argument % 2 == 1,
             ..mode
-        };
+        },
+        _ => mode,
     }
-    mode
 }
 
 // A command that is taken as SPI has it may change the mode; CMD13 and CMD58, which R2 and R3 answer,
@@ -112,13 +109,8 @@ fn mode_by(answering: Answering, mode: Mode, index: u8, argument: u32) -> Mode
     ensures { result ≡ mode_by answering mode index argument }
 {
     match answering {
-        Answering::Nothing => mode,
-        Answering::R1 => mode,
-        Answering::R2 => mode,
-        Answering::R3 => mode,
         Answering::SpiR1 => mode_after(mode, index, argument),
-        Answering::SpiR2 => mode,
-        Answering::SpiR3 => mode,
+        _ => mode,
     }
 }
 
@@ -126,13 +118,7 @@ fn mode_by(answering: Answering, mode: Mode, index: u8, argument: u32) -> Mode
 fn as_spi(mode: Mode, selected: bool, index: u8) -> bool
     ensures { result ≡ as_spi mode selected index }
 {
-    if !selected {
-        return false;
-    }
-    if mode.spi {
-        return true;
-    }
-    index == 0
+    selected && (mode.spi || index == 0)
 }
 
 // What a command finds at a card whose select line is low (`selected`) or high, before anything is
@@ -141,11 +127,10 @@ fn decide(mode: Mode, selected: bool, link: Link, met: Met, index: u8, argument:
     ensures { result ≡ decision_of mode selected link met index argument }
 {
     if as_spi(mode, selected, index) {
-        let state = link.state;
         let row = spi_moves::row_of(index);
         return Decision {
-            answering: in_spi(response_of(index)),
-            next: spi_moves::next(row, states::column_of(state)),
+            answering: Answering::from(response_of(index)),
+            next: spi_moves::next(row, states::column_of(link.state)),
         };
     }
     if mode.spi {
@@ -155,11 +140,9 @@ fn decide(mode: Mode, selected: bool, link: Link, met: Met, index: u8, argument:
         };
     }
     let decided = command::decide(link, met, index, argument);
-    let row = decided.row;
-    let next = decided.next;
     Decision {
-        answering: in_mmc(command::response_of(row)),
-        next,
+        answering: Answering::from(command::response_of(decided.row)),
+        next: decided.next,
     }
 }
 
@@ -178,9 +161,6 @@ fn take(
     let acted = command::act(link, met, index, argument, column);
     let errors = acted.errors;
     let after = acted.link;
-    let change = acted.change;
-    let from = link.state;
-    let to = after.state;
     Heard {
         mode: mode_by(answering, mode, index, argument),
         link: Link {
@@ -192,10 +172,10 @@ fn take(
             index,
             errors,
             met.locked,
-            states::column_of(from),
-            is_idle(to),
+            states::column_of(link.state),
+            is_idle(after.state),
         ),
-        change,
+        change: acted.change,
     }
 }
 
@@ -204,17 +184,14 @@ pub fn hear(mode: Mode, selected: bool, link: Link, met: Met, index: u8, argumen
     ensures answer { result ≡ heard_of mode selected link met index argument }
 {
     let decided = decide(mode, selected, link, met, index, argument);
-    let answering = decided.answering;
-    let next = decided.next;
-    match next {
-        Move::Ignored => unheard(mode, link),
-        Move::Silent => unheard(mode, link),
+    match decided.next {
+        Move::Ignored | Move::Silent => unheard(mode, link),
         Move::Illegal => {
             let spi = as_spi(mode, selected, index);
             let errors = status::set(link.errors, ErrorBit::IllegalCommand);
             untaken(mode, link, errors, spi)
         }
-        Move::To(column) => take(mode, link, met, index, argument, answering, column),
+        Move::To(column) => take(mode, link, met, index, argument, decided.answering, column),
     }
 }
 
@@ -242,14 +219,5 @@ pub fn damaged(mode: Mode, selected: bool, link: Link) -> Heard
 pub fn crc_passes(mode: Mode, index: u8, right: bool) -> bool
     ensures answer { result ≡ crc_passes mode index right }
 {
-    if right {
-        return true;
-    }
-    if !mode.spi {
-        return false;
-    }
-    if mode.checks {
-        return false;
-    }
-    index != 0
+    right || (mode.spi && !mode.checks && index != 0)
 }

@@ -12,7 +12,7 @@ ghost use Rattle.std.specs.Prelude.{◌≡◌, ◌<◌, ◌≤◌, drop};
 ghost use Rattle.base.specs.Output.{fits, laid};
 ghost use Rattle.text.specs.Text.{digit_of, hex_of, decimal_of};
 
-use base::{Refusal, copy};
+use base::{Refusal, lay};
 use itoa::Buffer;
 
 // The hex digit of a number below 16. (The library's `char::from_digit` gives small letters.)
@@ -35,23 +35,11 @@ pub fn hex(bytes: &[u8], out: &mut [u8]) -> Result<usize, Refusal>
     Ok(lines::hex(bytes, out, 0))
 }
 
-// Bytes copied to the front of `out`.
-fn put(bytes: &[u8], out: &mut [u8]) -> Result<usize, Refusal>
-    ensures answer { result ≡ fits bytes.now out.old }
-    ensures output { out.new ≡ laid result bytes.now out.old }
-{
-    if out.len() < bytes.len() {
-        return Err(Refusal::OutputShort);
-    }
-    copy(bytes, out, 0);
-    Ok(bytes.len())
-}
-
 // The decimal digits of `n`, with no leading zeros.
 #[tactic(auto, using(crate::proofs::Digits::written))]
 pub fn decimal(n: u64, out: &mut [u8]) -> Result<usize, Refusal>
     ensures answer { result ≡ fits (decimal_of n) out.old }
     ensures output { out.new ≡ laid result (decimal_of n) out.old }
 {
-    put(Buffer::new().format(n).as_bytes(), out)
+    lay(Buffer::new().format(n).as_bytes(), out)
 }

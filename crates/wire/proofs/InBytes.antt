@@ -3,7 +3,8 @@
 --   last_is       the byte that closes bytes is their CRC7, times 2, plus 1
 --   sealed_bits   bytes closed by that byte are their bits closed by CRC7 and a 1
 --   first_bits    the bits of a frame's first byte: 0, the transmission bit, the index
---   word_bits     the bits of a 32-bit number, by its four bytes
+--   word_bytes    the four bytes of a 32-bit number, highest first
+--   word_bits     the bits of a 32-bit number, by them
 --   frame_bytes   a frame of 48 bits, by its six bytes
 --   framing_is    a frame's fields, by its six bytes; framing_good, where the framing bits are right
 --   r3_bytes_lem      an R3, by its six bytes
@@ -16,6 +17,7 @@ use native.Mathlib.Omega.{arith}
 use lib.Dec.{eqb}
 use borrow.Author.Tests.{eq-eqb}
 use lib.ListN.{length, get_or, take}
+use Rattle.std.specs.Int.{w32, to_be_bytes}
 use Rattle.base.specs.Choice.{unless}
 use Rattle.base.specs.Refusals.{by}
 use Rattle.crc.specs.Bits.{bits_of, bits, spelt, octets}
@@ -63,6 +65,11 @@ first_bits t i ht hi =
 -- the four bytes of a 32-bit number, highest first
 abbrev pub bytes4 : ℕ → List ℕ
 bytes4 w = w / 16777216 ∷ w / 65536 % 256 ∷ w / 256 % 256 ∷ w % 256 ∷ []
+
+pub word_bytes : (w : ℕ) → w < 2 ^ 32 → to_be_bytes w32 w ≡ bytes4 w
+word_bytes w h =
+    let e : w / 16777216 % 256 ≡ w / 16777216 = omega arith in
+    ap (λ (x : ℕ). x ∷ w / 65536 % 256 ∷ w / 256 % 256 ∷ w % 256 ∷ []) e
 
 pub word_bits : (w : ℕ) → bits_of 32 w ≡ bits (bytes4 w)
 unfolding bits

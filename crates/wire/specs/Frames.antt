@@ -18,6 +18,10 @@ crc7_of = remainder 7 generator7
 unfoldable pub sealed : List ℕ → List ℕ
 sealed l = l ++ bits_of 7 (crc7_of l) ++ (1 ∷ [])
 
+-- 48 bits that have an index: 0, the transmission bit, index (6), a number (32), CRC7, 1
+abbrev pub indexed_frame : ℕ → ℕ → ℕ → List ℕ
+indexed_frame transmission index word = octets 6 (sealed (0 ∷ transmission ∷ bits_of 6 index ++ bits_of 32 word))
+
 -- "Command, 48 bits, first bit sent highest: 0, 1, index (6), argument (32), CRC7, 1"
 unfoldable pub command_frame : ℕ → ℕ → List ℕ
 command_frame index argument = octets 6 (sealed (0 ∷ 1 ∷ bits_of 6 index ++ bits_of 32 argument))

