@@ -83,7 +83,7 @@ fn frame_line(count: u64, registers: Registers, reply: Reply, out: &mut [u8]) ->
     let sent = reply.sent;
     match outcome {
         Ok(None) => sent_line(count, registers, sent, out),
-        Ok(Some(_))) => sent_line(count, registers, sent, out),
+        Ok(Some(_)) => sent_line(count, registers, sent, out),
         Err(refusal) => refused_line(count, refusal, b"line", registers, sent, out),
     }
 }
@@ -103,7 +103,7 @@ fn taken_line(count: u64, registers: Registers, reply: Reply, out: &mut [u8]) ->
     let sent = reply.sent;
     match outcome {
         Ok(None) => good_line(count, registers, sent, out),
-        Ok(Some(_))) => good_line(count, registers, sent, out),
+        Ok(Some(_)) => good_line(count, registers, sent, out),
         Err(refusal) => { refused_line(count, refusal, b"response", registers, sent, out) }
     }
 }

@@ -11,7 +11,7 @@ pub fn outcome_number(outcome: Result<Option<usize>, Refusal>) -> u8
 {
     match outcome {
         Ok(None) => 0,
-        Ok(Some(_))) => 0,
+        Ok(Some(_)) => 0,
         Err(refusal) => base::number(refusal),
     }
 }

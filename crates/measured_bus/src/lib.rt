@@ -90,7 +90,7 @@ fn heard(shown: Result<Option<usize>, Refusal>) -> usize
     ensures few { result ≤ 1 }
 {
     match shown {
-        Ok(Some(_))) => 1,
+        Ok(Some(_)) => 1,
         Ok(None) => 0,
         Err(_) => 0,
     }

@@ -18,10 +18,10 @@ use Rattle.bus.specs.declared.Bus.{Bus}
 use Rattle.bus.proofs.frame.Goals as goal
 use Rattle.bus.proofs.frame.Goals.{then-contends+else-not-holds, else-contends, then-not-leaves_alone, else-not-leaves_alone}
 
-pub returns-in-Err : goal.returns-in-Err
-returns-in-Err c = record {
+pub returns-in-Refused : goal.returns-in-Refused
+returns-in-Refused c = record {
   answer = c.refuse.ensures
-      ∙ asked_answered c.args.bus c.args.frame.now _ _ _ c.places-end.ensures c.asked_of-asked.ensures c.in-Err.is;
+      ∙ asked_answered c.args.bus c.args.frame.now _ _ _ c.places-end.ensures c.asked_of-asked.ensures c.in-Refused.is;
 }
 
 pub returns-in-Damaged : goal.returns-in-Damaged
