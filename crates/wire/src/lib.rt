@@ -2,7 +2,7 @@
 // the responses R1, R2 and R3 written from what they mean, the last byte of a register, and data
 // blocks written and checked. No call has a `requires`: what is wrong is refused by its number.
 //
-// Offers: `unframe`, `read_frame`, `write_command`; `R1`, `R2`, `R3`, `write_r1`, `write_r2`,
+// Offers: `Command`, `unframe`, `read_frame`, `write_command`; `R1`, `R2`, `R3`, `write_r1`, `write_r2`,
 // `ocr_bytes`, `write_r3`; `last_byte`, `register_right`; `LONGEST_BLOCK`, `write_block`, `check_block`.
 #![tactic(auto)]
 
@@ -24,6 +24,13 @@ pub enum Framing {
         crc_right: bool,
     },
     Unframed(Refusal),
+}
+
+// What a command frame says.
+#[derive(Clone, Copy)]
+pub struct Command {
+    pub index: u8,
+    pub argument: u32,
 }
 
 // A command, or the refusal.
