@@ -13,7 +13,7 @@ use base::{Refusal, copy};
 use card_record::{Card, Registers, Sent};
 use command::{Decided, Met};
 use moves::{Move, Row};
-use wire::Fields;
+use wire::{Command, Fields};
 
 // Whether a command is one for the bus.
 fn on_bus(index: u8) -> bool
@@ -105,7 +105,7 @@ pub fn decide(card: Card, wins: bool, index: u8, argument: u32) -> Decided
         };
     }
     let link = card.link;
-    command::decide(link, met_by(card, wins), index, argument)
+    command::decide(link, met_by(card, wins), Command { index, argument })
 }
 
 // One card's turn, as it was decided.
@@ -121,7 +121,12 @@ pub fn turn(
     ensures { result ≡ turn_of heard card wins index argument }
 {
     let link = card.link;
-    let given = command::follow(link, met_by(card, wins), index, argument, decided);
+    let given = command::follow(
+        link,
+        met_by(card, wins),
+        Command { index, argument },
+        decided,
+    );
     let next = given.link;
     let sent = given.sent;
     let registers = card.registers;

@@ -12,7 +12,7 @@ use card_blocks::{Reply, Stepped, refuse};
 use card_record::{Card, Link, Mode};
 use command::{Change, Met};
 use status::ErrorBit;
-use wire::Fields;
+use wire::{Command, Fields};
 
 // Bit 15, which waits for the next R1, where an erase spared a sector.
 fn tell_spared(link: Link, spared: bool) -> Link
@@ -36,15 +36,14 @@ pub fn heard(
     link: Link,
     met: Met,
     whole: bool,
-    index: u8,
-    argument: u32,
+    command: Command,
     memory: &mut [u8],
     map: &mut [u8],
 ) -> Answered
-    ensures answer { result ≡ command_heard mode selected link met whole index argument (seen (lent_of memory.old map.old)) }
-    ensures lent { lent_of memory.new map.new ≡ changed link.tags whole (heard_of mode selected link met index argument).change (lent_of memory.old map.old) }
+    ensures answer { result ≡ command_heard mode selected link met whole command.index command.argument (seen (lent_of memory.old map.old)) }
+    ensures lent { lent_of memory.new map.new ≡ changed link.tags whole (heard_of mode selected link met command.index command.argument).change (lent_of memory.old map.old) }
 {
-    let given = spi::hear(mode, selected, link, met, index, argument);
+    let given = spi::hear(mode, selected, link, met, command);
     let next = given.link;
     let told = match given.change {
         Change::Nothing => next,
@@ -66,13 +65,12 @@ fn commanded(
     card: Card,
     wins: bool,
     selected: bool,
-    index: u8,
-    argument: u32,
+    command: Command,
     memory: &mut [u8],
     map: &mut [u8],
 ) -> Stepped
-    ensures answer { result ≡ frame_told card (seen (lent_of memory.old map.old)) (commanded card (Ok None) (heard_of card.mode selected card.link (met_by card wins) index argument)) }
-    ensures lent { lent_of memory.new map.new ≡ changed_by card (heard_of card.mode selected card.link (met_by card wins) index argument).change (lent_of memory.old map.old) }
+    ensures answer { result ≡ frame_told card (seen (lent_of memory.old map.old)) (commanded card (Ok None) (heard_of card.mode selected card.link (met_by card wins) command.index command.argument)) }
+    ensures lent { lent_of memory.new map.new ≡ changed_by card (heard_of card.mode selected card.link (met_by card wins) command.index command.argument).change (lent_of memory.old map.old) }
 {
     let registers = card.registers;
     let whole = card_record::csd_protects(registers.csd);
@@ -83,7 +81,7 @@ fn commanded(
         wins,
     };
     let given = heard(
-        card.mode, selected, card.link, met, whole, index, argument, memory, map,
+        card.mode, selected, card.link, met, whole, command, memory, map,
     );
     Stepped {
         card: Card {
@@ -137,7 +135,14 @@ fn framed(
             },
         ) => {
             if spi::crc_passes(card.mode, index, crc_right) {
-                commanded(card, wins, selected, index, argument, memory, map)
+                commanded(
+                    card,
+                    wins,
+                    selected,
+                    Command { index, argument },
+                    memory,
+                    map,
+                )
             } else {
                 damaged(card, selected)
             }

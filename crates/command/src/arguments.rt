@@ -4,6 +4,7 @@ ghost use Rattle.command.specs.Arguments.{length_fault, read_fault, write_fault,
 
 use base::SECTOR;
 use status::ErrorBit;
+use wire::Command;
 
 // The sizes of document 01, in the types that they are used in here: a sector as a block's length,
 // and as a part of the memory.
@@ -76,10 +77,11 @@ fn address_fault(argument: u32) -> Option<ErrorBit>
 
 // For all commands but the erase commands.
 #[tactic(auto, unfolding(crate::specs::Arguments::argument_fault))]
-pub fn argument_fault(index: u8, argument: u32, length: u16, size: u32) -> Option<ErrorBit>
-    ensures answer { result ≡ argument_fault index argument length size }
+pub fn argument_fault(command: Command, length: u16, size: u32) -> Option<ErrorBit>
+    ensures answer { result ≡ argument_fault command.index command.argument length size }
 {
-    match index {
+    let argument = command.argument;
+    match command.index {
         3 => address_fault(argument),
         16 => length_fault(argument),
         17 | 18 => read_fault(argument, length, size),

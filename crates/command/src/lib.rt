@@ -3,7 +3,7 @@
 // does to a card stands in obey.rt, whatever the mode; which commands are taken, what they answer
 // and which error bits they clear, as MMC mode has it, stands here. No call has a `requires`.
 //
-// Offers: `Met`, `Change`, `Acted`, `act`; a command in its two parts, `Decided`, `decide`,
+// Offers: `Met`, `Change`, `Acted`, `act`; a command in two steps, `Decided`, `decide`,
 // `leaves_alone`, and `Commanded`, `follow`; how MMC mode answers, `Response`, `response_of`, `respond`,
 // `left`; `damaged`.
 #![tactic(auto)]
@@ -20,6 +20,7 @@ use moves::{Move, Received, Row};
 pub use obey::act;
 use states::{Column, State};
 use status::{ErrorBit, Errors};
+use wire::Command;
 
 // What a command meets at a card beside the link: whether the card would win the line in CMD2, the
 // lock flag, the size in protection groups, and the OCR.
@@ -164,23 +165,22 @@ fn answer(acted: Acted, response: Response, index: u8, locked: bool, on: Column)
 
 // A command that has a legal move to a column.
 #[tactic(auto, unfolding(crate::specs::Command::taken_of))]
-fn take(link: Link, met: Met, asked: Received, row: Row, column: Column) -> Commanded
-    ensures { result ≡ taken_of link met asked row column }
+fn take(link: Link, met: Met, command: Command, row: Row, column: Column) -> Commanded
+    ensures { result ≡ taken_of link met (received_of link met command.index command.argument) row column }
 {
-    let index = asked.index;
     let on = states::column_of(link.state);
     let response = response_of(row);
-    let acted = obey::act(link, met, index, asked.argument, column);
-    answer(acted, response, index, met.locked, on)
+    let acted = obey::act(link, met, command, column);
+    answer(acted, response, command.index, met.locked, on)
 }
 
 // A command as it meets a card.
-fn received(link: Link, met: Met, index: u8, argument: u32) -> Received
-    ensures { result ≡ received_of link met index argument }
+fn received(link: Link, met: Met, command: Command) -> Received
+    ensures { result ≡ received_of link met command.index command.argument }
 {
     Received {
-        index,
-        argument,
+        index: command.index,
+        argument: command.argument,
         address: link.address,
         ocr: met.ocr,
         wins: met.wins,
@@ -189,11 +189,10 @@ fn received(link: Link, met: Met, index: u8, argument: u32) -> Received
 
 // What checks 1, 3 and 4 find, before anything is done. A card that this leaves alone need not be
 // taken out of its place.
-pub fn decide(link: Link, met: Met, index: u8, argument: u32) -> Decided
-    ensures answer { result ≡ decided_of link met index argument }
+pub fn decide(link: Link, met: Met, command: Command) -> Decided
+    ensures answer { result ≡ decided_of link met command.index command.argument }
 {
-    let asked = received(link, met, index, argument);
-    let row = moves::row_of(asked);
+    let row = moves::row_of(received(link, met, command));
     let next = moves::next(row, states::column_of(link.state));
     Decided { row, next }
 }
@@ -206,16 +205,15 @@ pub fn leaves_alone(decided: Decided) -> bool
 }
 
 // What was decided, done.
-pub fn follow(link: Link, met: Met, index: u8, argument: u32, decided: Decided) -> Commanded
-    ensures answer { result ≡ moved_by link met (received_of link met index argument) decided.row decided.next }
+pub fn follow(link: Link, met: Met, command: Command, decided: Decided) -> Commanded
+    ensures answer { result ≡ moved_by link met (received_of link met command.index command.argument) decided.row decided.next }
 {
-    let asked = received(link, met, index, argument);
     match decided.next {
         Move::Ignored | Move::Silent => silent(link),
         Move::Illegal => silent(Link {
             errors: status::set(link.errors, ErrorBit::IllegalCommand),
             ..link
         }),
-        Move::To(column) => take(link, met, asked, decided.row, column),
+        Move::To(column) => take(link, met, command, decided.row, column),
     }
 }

@@ -13,6 +13,7 @@ use moves::Class;
 use states::{Column, Incoming, Outgoing, State};
 use status::{ErrorBit, Errors};
 use tags::{Kind, Tagging, Tags};
+use wire::Command;
 
 // Whether a command other than the erase commands drops tags.
 fn drops_tags(index: u8) -> bool
@@ -56,11 +57,12 @@ fn erase_tagging(tags: Tags) -> Tagging
 
 // Check 6 with the tags that a command leaves.
 #[tactic(auto, unfolding(crate::specs::Obey::tagging_of))]
-fn tagging(link: Link, size: u32, index: u8, argument: u32) -> Tagging
-    ensures { result ≡ tagging_of link size index argument }
+fn tagging(link: Link, size: u32, command: Command) -> Tagging
+    ensures { result ≡ tagging_of link size command.index command.argument }
 {
     let held = link.tags;
-    match index {
+    let argument = command.argument;
+    match command.index {
         13 => Tagging {
             tags: held,
             error: None,
@@ -72,23 +74,23 @@ fn tagging(link: Link, size: u32, index: u8, argument: u32) -> Tagging
         38 => erase_tagging(held),
         _ => Tagging {
             tags: tags::no_tags(),
-            error: argument_fault(index, argument, card_record::read_length(link.length), size),
+            error: argument_fault(command, card_record::read_length(link.length), size),
         },
     }
 }
 
 // Checks 5 and 6, with the tags that the command leaves.
 #[tactic(auto, unfolding(crate::specs::Obey::judged_of))]
-fn judge(link: Link, groups: u16, locked: bool, index: u8, argument: u32) -> Tagging
-    ensures { result ≡ judged_of link groups locked index argument }
+fn judge(link: Link, groups: u16, locked: bool, command: Command) -> Tagging
+    ensures { result ≡ judged_of link groups locked command.index command.argument }
 {
-    if !passes_lock(locked, index) {
+    if !passes_lock(locked, command.index) {
         return Tagging {
             tags: tags::no_tags(),
             error: Some(ErrorBit::LockUnlockFailed),
         };
     }
-    tagging(link, card_record::size(groups), index, argument)
+    tagging(link, card_record::size(groups), command)
 }
 
 // The error bits with 13 where the command drops tags.
@@ -122,10 +124,11 @@ fn state_at(column: Column, work: State) -> State
 
 // The work that a command begins; any other goes on with what there is.
 #[tactic(auto, unfolding(crate::specs::Obey::awaited_by))]
-fn awaited_by(index: u8, argument: u32, state: State) -> State
-    ensures { result ≡ awaited_by index argument state }
+fn awaited_by(command: Command, state: State) -> State
+    ensures { result ≡ awaited_by command.index command.argument state }
 {
-    match index {
+    let argument = command.argument;
+    match command.index {
         17 => State::Data(Outgoing::One(argument)),
         18 => State::Data(Outgoing::Many(argument)),
         24 => State::Rcv(Incoming::One(argument)),
@@ -138,33 +141,33 @@ fn awaited_by(index: u8, argument: u32, state: State) -> State
     }
 }
 
-fn address_after(index: u8, argument: u32, address: u16) -> u16
-    ensures { result ≡ address_after index argument address }
+fn address_after(command: Command, address: u16) -> u16
+    ensures { result ≡ address_after command.index command.argument address }
 {
-    if index == 3 {
-        return (argument / 65536) as u16;
+    if command.index == 3 {
+        return (command.argument / 65536) as u16;
     }
     address
 }
 
-fn length_after(index: u8, argument: u32, length: u16) -> u16
-    ensures { result ≡ length_after index argument length }
+fn length_after(command: Command, length: u16) -> u16
+    ensures { result ≡ length_after command.index command.argument length }
 {
-    if index == 16 {
-        return (argument % 65536) as u16;
+    if command.index == 16 {
+        return (command.argument % 65536) as u16;
     }
     length
 }
 
 // A command without a fault obeyed: it leads to a column, and leaves these tags.
 #[tactic(auto, unfolding(crate::specs::Obey::obeyed))]
-fn obey(link: Link, index: u8, argument: u32, column: Column, tags: Tags) -> Link
-    ensures { result ≡ obeyed link index argument column tags }
+fn obey(link: Link, command: Command, column: Column, tags: Tags) -> Link
+    ensures { result ≡ obeyed link command.index command.argument column tags }
 {
     Link {
-        state: state_at(column, awaited_by(index, argument, link.state)),
-        address: address_after(index, argument, link.address),
-        length: length_after(index, argument, link.length),
+        state: state_at(column, awaited_by(command, link.state)),
+        address: address_after(command, link.address),
+        length: length_after(command, link.length),
         tags,
         ..link
     }
@@ -172,10 +175,11 @@ fn obey(link: Link, index: u8, argument: u32, column: Column, tags: Tags) -> Lin
 
 // What a command without a fault changes in what is lent.
 #[tactic(auto, unfolding(crate::specs::Obey::change_of))]
-fn change_of(index: u8, argument: u32) -> Change
-    ensures { result ≡ change_of index argument }
+fn change_of(command: Command) -> Change
+    ensures { result ≡ change_of command.index command.argument }
 {
-    match index {
+    let argument = command.argument;
+    match command.index {
         28 => Change::Protect {
             group: argument / PROTECTION_GROUP,
             on: true,
@@ -192,24 +196,24 @@ fn change_of(index: u8, argument: u32) -> Change
 // What a taken command does, which the table leads to a column: CMD0 resets; with a fault the
 // command only tells its bit, else it is obeyed.
 #[tactic(auto, unfolding(crate::specs::Obey::acted_of, crate::specs::Obey::after_checks))]
-pub fn act(link: Link, met: Met, index: u8, argument: u32, column: Column) -> Acted
-    ensures answer { result ≡ acted_of link met index argument column }
+pub fn act(link: Link, met: Met, command: Command, column: Column) -> Acted
+    ensures answer { result ≡ acted_of link met command.index command.argument column }
 {
-    if index == 0 {
+    if command.index == 0 {
         return Acted {
             link: card_record::fresh(),
             errors: status::none(),
             change: Change::Nothing,
         };
     }
-    let judged = judge(link, met.groups, met.locked, index, argument);
-    let errors = reset_told(link, index);
+    let judged = judge(link, met.groups, met.locked, command);
+    let errors = reset_told(link, command.index);
     let tags = judged.tags;
     match judged.error {
         None => Acted {
-            link: obey(link, index, argument, column, tags),
+            link: obey(link, command, column, tags),
             errors,
-            change: change_of(index, argument),
+            change: change_of(command),
         },
         Some(bit) => Acted {
             link: Link { tags, ..link },

@@ -17,7 +17,7 @@ use base::Refusal;
 use card_record::{Registers, Sent};
 use command::Met;
 use crossing::{groups_of, link_of, locked_of, mode_of, registers_of, tell_errors, tell_link};
-use wire::Fields;
+use wire::{Command, Fields};
 
 // What a command meets beside the link, at the card that the numbers stand for.
 fn met_of(numbers: [u32; 13], wins: bool) -> Met
@@ -70,19 +70,18 @@ fn hear(
     csd: &[u8; 16],
     wins: bool,
     selected: bool,
-    index: u8,
-    argument: u32,
+    command: Command,
     memory: &mut [u8],
     map: &mut [u8],
     answer: &mut [u8; 17],
 ) -> usize
-    requires { index ≤ 63 }
+    requires { command.index ≤ 63 }
     ensures answer { let mode = mode_of numbers.old in
         let link = link_of numbers.old in
         let met = met_at numbers.old wins in
         let whole = csd_protects csd.now in
         let lent = lent_of memory.old map.old in
-        let heard = command_heard mode selected link met whole index argument (seen lent) in
+        let heard = command_heard mode selected link met whole command.index command.argument (seen lent) in
         let bytes = sent_bytes (registers_of numbers.old cid.now csd.now) heard.sent in
         result ≡ length bytes }
     ensures numbers { let mode = mode_of numbers.old in
@@ -90,7 +89,7 @@ fn hear(
         let met = met_at numbers.old wins in
         let whole = csd_protects csd.now in
         let lent = lent_of memory.old map.old in
-        let heard = command_heard mode selected link met whole index argument (seen lent) in
+        let heard = command_heard mode selected link met whole command.index command.argument (seen lent) in
         (numbers.new ≡ link_numbers heard.link ++ mode_numbers heard.mode ++ drop 9 numbers.old)
         × ((link_of numbers.new ≡ heard.link) × (mode_of numbers.new ≡ heard.mode)) }
     ensures lent { let mode = mode_of numbers.old in
@@ -98,13 +97,13 @@ fn hear(
         let met = met_at numbers.old wins in
         let whole = csd_protects csd.now in
         let lent = lent_of memory.old map.old in
-        lent_of memory.new map.new ≡ changed link.tags whole (heard_of mode selected link met index argument).change lent }
+        lent_of memory.new map.new ≡ changed link.tags whole (heard_of mode selected link met command.index command.argument).change lent }
     ensures sent { let mode = mode_of numbers.old in
         let link = link_of numbers.old in
         let met = met_at numbers.old wins in
         let whole = csd_protects csd.now in
         let lent = lent_of memory.old map.old in
-        let heard = command_heard mode selected link met whole index argument (seen lent) in
+        let heard = command_heard mode selected link met whole command.index command.argument (seen lent) in
         let bytes = sent_bytes (registers_of numbers.old cid.now csd.now) heard.sent in
         answer.new ≡ fronted bytes answer.old }
 {
@@ -112,9 +111,7 @@ fn hear(
     let link = link_of(*numbers);
     let met = met_of(*numbers, wins);
     let whole = card_record::csd_protects(*csd);
-    let heard = card::heard(
-        mode, selected, link, met, whole, index, argument, memory, map,
-    );
+    let heard = card::heard(mode, selected, link, met, whole, command, memory, map);
     tell_link(heard.link, heard.mode, numbers);
     let registers = registers_of(*numbers, *cid, *csd);
     send(registers, heard.sent, answer)
@@ -181,8 +178,7 @@ pub extern "C" fn mmc_parts_frame(
                 csd,
                 won != 0,
                 selected != 0,
-                index,
-                argument,
+                Command { index, argument },
                 memory,
                 map,
                 answer,

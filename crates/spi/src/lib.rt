@@ -20,6 +20,7 @@ use moves::Move;
 use replies::{is_idle, left_by, pending, response_of, sent_by, shown};
 use states::{Column, State};
 use status::{ErrorBit, Errors};
+use wire::Command;
 
 // What a command leaves: the mode, the link, what is sent, and what is to change in what is lent.
 #[derive(Clone, Copy)]
@@ -87,16 +88,16 @@ fn untaken(mode: Mode, link: Link, errors: Errors, answered: bool) -> Heard
 }
 
 // CMD0 enters SPI, or starts it anew, with CRC checking off; CMD59 switches the checking.
-fn mode_after(mode: Mode, index: u8, argument: u32) -> Mode
-    ensures { result ≡ mode_after mode index argument }
+fn mode_after(mode: Mode, command: Command) -> Mode
+    ensures { result ≡ mode_after mode command.index command.argument }
 {
-    match index {
+    match command.index {
         0 => Mode {
             spi: true,
             checks: false,
         },
         59 => Mode {
-            checks: argument % 2 == 1,
+            checks: command.argument % 2 == 1,
             ..mode
         },
         _ => mode,
@@ -105,11 +106,11 @@ fn mode_after(mode: Mode, index: u8, argument: u32) -> Mode
 
 // A command that is taken as SPI has it may change the mode; CMD13 and CMD58, which R2 and R3 answer,
 // do not.
-fn mode_by(answering: Answering, mode: Mode, index: u8, argument: u32) -> Mode
-    ensures { result ≡ mode_by answering mode index argument }
+fn mode_by(answering: Answering, mode: Mode, command: Command) -> Mode
+    ensures { result ≡ mode_by answering mode command.index command.argument }
 {
     match answering {
-        Answering::SpiR1 => mode_after(mode, index, argument),
+        Answering::SpiR1 => mode_after(mode, command),
         _ => mode,
     }
 }
@@ -123,13 +124,13 @@ fn as_spi(mode: Mode, selected: bool, index: u8) -> bool
 
 // What a command finds at a card whose select line is low (`selected`) or high, before anything is
 // done.
-fn decide(mode: Mode, selected: bool, link: Link, met: Met, index: u8, argument: u32) -> Decision
-    ensures { result ≡ decision_of mode selected link met index argument }
+fn decide(mode: Mode, selected: bool, link: Link, met: Met, command: Command) -> Decision
+    ensures { result ≡ decision_of mode selected link met command.index command.argument }
 {
-    if as_spi(mode, selected, index) {
-        let row = spi_moves::row_of(index);
+    if as_spi(mode, selected, command.index) {
+        let row = spi_moves::row_of(command.index);
         return Decision {
-            answering: Answering::from(response_of(index)),
+            answering: Answering::from(response_of(command.index)),
             next: spi_moves::next(row, states::column_of(link.state)),
         };
     }
@@ -139,7 +140,7 @@ fn decide(mode: Mode, selected: bool, link: Link, met: Met, index: u8, argument:
             next: Move::Ignored,
         };
     }
-    let decided = command::decide(link, met, index, argument);
+    let decided = command::decide(link, met, command);
     Decision {
         answering: Answering::from(command::response_of(decided.row)),
         next: decided.next,
@@ -151,25 +152,24 @@ fn take(
     mode: Mode,
     link: Link,
     met: Met,
-    index: u8,
-    argument: u32,
+    command: Command,
     answering: Answering,
     column: Column,
 ) -> Heard
-    ensures { result ≡ taken_by mode link met index argument answering column }
+    ensures { result ≡ taken_by mode link met command.index command.argument answering column }
 {
-    let acted = command::act(link, met, index, argument, column);
+    let acted = command::act(link, met, command, column);
     let errors = acted.errors;
     let after = acted.link;
     Heard {
-        mode: mode_by(answering, mode, index, argument),
+        mode: mode_by(answering, mode, command),
         link: Link {
             errors: left_by(answering, errors),
             ..after
         },
         sent: sent_by(
             answering,
-            index,
+            command.index,
             errors,
             met.locked,
             states::column_of(link.state),
@@ -180,18 +180,18 @@ fn take(
 }
 
 // A command at a card, as it was decided.
-pub fn hear(mode: Mode, selected: bool, link: Link, met: Met, index: u8, argument: u32) -> Heard
-    ensures answer { result ≡ heard_of mode selected link met index argument }
+pub fn hear(mode: Mode, selected: bool, link: Link, met: Met, command: Command) -> Heard
+    ensures answer { result ≡ heard_of mode selected link met command.index command.argument }
 {
-    let decided = decide(mode, selected, link, met, index, argument);
+    let decided = decide(mode, selected, link, met, command);
     match decided.next {
         Move::Ignored | Move::Silent => unheard(mode, link),
         Move::Illegal => {
-            let spi = as_spi(mode, selected, index);
+            let spi = as_spi(mode, selected, command.index);
             let errors = status::set(link.errors, ErrorBit::IllegalCommand);
             untaken(mode, link, errors, spi)
         }
-        Move::To(column) => take(mode, link, met, index, argument, decided.answering, column),
+        Move::To(column) => take(mode, link, met, command, decided.answering, column),
     }
 }
 

@@ -27,8 +27,8 @@ pub returns-in-Ignored : goal.returns-in-Ignored
 returns-in-Ignored c = record {
   answer = let a = c.args in
       c.unheard.ensures ∙ elim c.in-Ignored.is [
-        | inl e ↦ decided a.mode a.selected a.link a.met a.index a.argument c.decide-decided.ensures e
-        | inr e ↦ decided a.mode a.selected a.link a.met a.index a.argument c.decide-decided.ensures e
+        | inl e ↦ decided a.mode a.selected a.link a.met a.command.index a.command.argument c.decide-decided.ensures e
+        | inr e ↦ decided a.mode a.selected a.link a.met a.command.index a.command.argument c.decide-decided.ensures e
       ];
 }
 
@@ -36,11 +36,11 @@ pub returns-in-Illegal : goal.returns-in-Illegal
 returns-in-Illegal c = record {
   answer = let a = c.args in
       simp (c.untaken.ensures, c.set-errors.ensures.answer, c.as_spi-spi.ensures)
-      (decided a.mode a.selected a.link a.met a.index a.argument c.decide-decided.ensures c.in-Illegal.is);
+      (decided a.mode a.selected a.link a.met a.command.index a.command.argument c.decide-decided.ensures c.in-Illegal.is);
 }
 
 pub returns-in-To : goal.returns-in-To
 returns-in-To c = record {
   answer = let a = c.args in
-      c.take.ensures ∙ decided a.mode a.selected a.link a.met a.index a.argument c.decide-decided.ensures c.in-To.is;
+      c.take.ensures ∙ decided a.mode a.selected a.link a.met a.command.index a.command.argument c.decide-decided.ensures c.in-To.is;
 }

@@ -1,17 +1,12 @@
 -- `wire::write_block` meets its contract: the copied payload and the two bytes of the sum behind it are the block.
 -- Assumes nothing.
-use mathlib.Core.Path.{◌≡◌, refl, sym, ap, ap₂, ◌∙◌}
-use mathlib.Core.List.{List, [], ◌∷◌, ◌++◌, append_assoc}
-use Prim.Native.Nat.{ℕ, ◌+◌, ◌-◌, ◌/◌, ◌%◌, ◌^◌, ◌<◌}
-use native.Mathlib.Omega.{arith}
+use mathlib.Core.Path.{refl, ap, ◌∙◌}
+use mathlib.Core.List.{List, ◌++◌}
+use Prim.Native.Nat.{ℕ, ◌+◌}
 use borrow.Author.Rules.{rules}
 use borrow.Author.Tests.{le-leb}
-use borrow.Rule.Slice.PartMut.{put_mid}
 use lib.ListN.{length, drop}
-use lib.Seq.{take_at, drop_at, drop-drop}
-use Rattle.std.specs.Int.{w16, to_be_bytes}
 use Rattle.base.proofs.Output.{short, written}
-use Rattle.crc.specs.Crc.{crc16}
 use Rattle.wire.specs.Blocks.{block_of, block_written}
 use Rattle.wire.proofs.BlockTheorems.{long}
 use Rattle.wire.proofs.Closing.{closed}

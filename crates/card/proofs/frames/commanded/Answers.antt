@@ -41,5 +41,5 @@ pub returns-clause-answer : goal.returns-clause-answer
 returns-clause-answer c = let a = c.args in
     let m = a.memory.now in
     let p = a.map.now in
-    let did : Heard = heard_of a.card.mode a.selected a.card.link (met_by a.card a.wins) a.index a.argument in at_card a.card a.wins a.selected a.index a.argument (seen (lent_of m p)) c.csd_protects-whole.result c.heard-given.result c.csd_protects-whole.ensures.answer
+    let did : Heard = heard_of a.card.mode a.selected a.card.link (met_by a.card a.wins) a.command.index a.command.argument in at_card a.card a.wins a.selected a.command.index a.command.argument (seen (lent_of m p)) c.csd_protects-whole.result c.heard-given.result c.csd_protects-whole.ensures.answer
     c.heard-given.ensures.answer
