@@ -26,7 +26,7 @@ pub enum Framing {
     Unframed(Refusal),
 }
 
-// What a command frame says.
+// What a command frame says. The index stays a number: any may come, and the definitions speak of it (`acted_of`).
 #[derive(Clone, Copy)]
 pub struct Command {
     pub index: u8,
