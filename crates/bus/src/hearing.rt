@@ -3,7 +3,6 @@
 ghost use Rattle.std.specs.Prelude.{◌≡◌, ◌≤◌};
 ghost use Rattle.bus.specs.Bus.{shown_of, padded, bus_indices};
 ghost use Rattle.bus.specs.Hearing.{bus_asked, quiet, heard_of, decided_at, turn_of, sent_on};
-ghost use Rattle.command.specs.Command.{met_by};
 ghost use Rattle.card_record.specs.Sending.{sent_bytes, Sendable};
 ghost use Rattle.crc.specs.Bits.{Below};
 ghost use Rattle.moves.specs.Indices.{among};
@@ -11,7 +10,7 @@ ghost use Rattle.moves.specs.Indices.{among};
 use crate::{Asked, Heard, Turned};
 use base::{Refusal, copy};
 use card_record::{Card, Registers, Sent};
-use command::{Decided, Met};
+use command::{Decided, met_by};
 use moves::{Move, Row};
 use wire::{Command, Fields};
 
@@ -78,18 +77,6 @@ fn hear(heard: Heard, registers: Registers, sent: Sent) -> Heard
             longest: heard.longest.max(n),
         },
         Err(_) => heard,
-    }
-}
-
-// What a command meets at a card of the bus.
-fn met_by(card: Card, wins: bool) -> Met
-    ensures { result ≡ met_by card wins }
-{
-    Met {
-        ocr: card.registers.ocr,
-        groups: card.registers.groups,
-        locked: card.lock.locked,
-        wins,
     }
 }
 

@@ -72,14 +72,8 @@ fn commanded(
     ensures answer { result ≡ frame_told card (seen (lent_of memory.old map.old)) (commanded card (Ok None) (heard_of card.mode selected card.link (met_by card wins) command.index command.argument)) }
     ensures lent { lent_of memory.new map.new ≡ changed_by card (heard_of card.mode selected card.link (met_by card wins) command.index command.argument).change (lent_of memory.old map.old) }
 {
-    let registers = card.registers;
-    let whole = card_record::csd_protects(registers.csd);
-    let met = Met {
-        ocr: registers.ocr,
-        groups: registers.groups,
-        locked: card.lock.locked,
-        wins,
-    };
+    let whole = card_record::csd_protects(card.registers.csd);
+    let met = command::met_by(card, wins);
     let given = heard(
         card.mode, selected, card.link, met, whole, command, memory, map,
     );
@@ -96,7 +90,7 @@ fn commanded(
     }
 }
 
-// A frame whose CRC7 is wrong, where that counts.
+// A frame whose CRC7 is wrong, where that counts. It ends as `commanded` does; a function for both ends would take five parameters.
 fn damaged(card: Card, selected: bool) -> Stepped
     ensures { result ≡ (commanded card (Err (by 3)) (damaged_of card.mode selected card.link)).stepped }
 {

@@ -27,7 +27,7 @@ fn awaited_length(card: Card, incoming: Incoming) -> usize
     }
 }
 
-// The block of a write, kept until it is stored.
+// The block of a write, kept until it is stored: an array of its own, as it must be, where `first_chunk` would lend it.
 fn kept(block: &[u8]) -> [u8; 512]
     requires { 512 ≤ length block.now }
     ensures { result ≡ take 512 block.now }

@@ -28,6 +28,7 @@ pub fn write_sent(registers: Registers, sent: Sent, out: &mut [u8]) -> Result<us
     match sent {
         Sent::Nothing => Ok(0),
         Sent::Status { index, status } => wire::write_r1(R1 { index, status }, out),
+        // A register is named first: the borrow checker takes an array into a literal by a variable alone.
         Sent::Cid => {
             let register = registers.cid;
             wire::write_r2(R2 { register }, out)

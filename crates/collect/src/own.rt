@@ -38,7 +38,7 @@ fn called(card: Card, call: Call, input: &[u8], memory: &mut [u8], out: &mut [u8
 
 pub fn command(index: u8, argument: u32) -> [u8; 6] {
     let mut frame = [0u8; 6];
-    wire::write_command(index, argument, &mut frame);
+    let _ = wire::write_command(index, argument, &mut frame);
     frame
 }
 

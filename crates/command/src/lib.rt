@@ -3,7 +3,7 @@
 // does to a card stands in obey.rt, whatever the mode; which commands are taken, what they answer
 // and which error bits they clear, as MMC mode has it, stands here. No call has a `requires`.
 //
-// Offers: `Met`, `Change`, `Acted`, `act`; a command in two steps, `Decided`, `decide`,
+// Offers: `Met`, `met_by`, `Change`, `Acted`, `act`; a command in two steps, `Decided`, `decide`,
 // `leaves_alone`, and `Commanded`, `follow`; how MMC mode answers, `Response`, `response_of`, `respond`,
 // `left`; `damaged`.
 #![tactic(auto)]
@@ -13,9 +13,9 @@ mod obey;
 
 ghost use Rattle.std.specs.Prelude.{◌≡◌};
 ghost use Rattle.command.specs.Answers.{response_of, register_sent, sent_of, left_of, answered, silent};
-ghost use Rattle.command.specs.Command.{received_of, damaged_link, taken_of, moved_by, decided_of, leaves_alone};
+ghost use Rattle.command.specs.Command.{met_by, received_of, damaged_link, taken_of, moved_by, decided_of, leaves_alone};
 
-use card_record::{Link, Sent};
+use card_record::{Card, Link, Sent};
 use moves::{Move, Received, Row};
 pub use obey::act;
 use states::{Column, State};
@@ -172,6 +172,18 @@ fn take(link: Link, met: Met, command: Command, row: Row, column: Column) -> Com
     let response = response_of(row);
     let acted = obey::act(link, met, command, column);
     answer(acted, response, command.index, met.locked, on)
+}
+
+// What a command meets at a card, which would win the line in CMD2, or would not.
+pub fn met_by(card: Card, wins: bool) -> Met
+    ensures answer { result ≡ met_by card wins }
+{
+    Met {
+        ocr: card.registers.ocr,
+        groups: card.registers.groups,
+        locked: card.lock.locked,
+        wins,
+    }
 }
 
 // A command as it meets a card.

@@ -11,6 +11,7 @@ use states::{Incoming, Outgoing, State};
 use status::Errors;
 use tags::{Kind, Range, Tags};
 
+// Numbers for kinds, here and below, since C holds a record so (mmc.h; `state_of`, `tags_by`).
 // The states that carry no work, up to Transfer: whatever place stands beside the number.
 #[tactic(auto, unfolding(crate::specs::Record::state_of))]
 fn at_rest(number: u32) -> State

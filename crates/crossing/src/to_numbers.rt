@@ -10,6 +10,7 @@ use states::{Incoming, Outgoing, State};
 use status::Errors;
 use tags::{Kind, Range};
 
+// Numbers for kinds, here and below, since C holds a record so (mmc.h; `state_number`, `tags_number`).
 fn outgoing_number(outgoing: Outgoing) -> u32
     ensures { result ≡ outgoing_number outgoing }
 {

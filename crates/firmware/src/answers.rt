@@ -18,6 +18,7 @@ pub fn outcome_number(outcome: Result<Option<usize>, Refusal>) -> u8
 
 // Whether a call that answers this number has left the record as it was: its numbers are then left,
 // too, also where they are wider than their fields or stand for nothing.
+// It is asked by number, as `leaves_record` of specs/ and mmc.h have it.
 pub fn leaves_record(number: u8) -> bool
     ensures answer { result ≡ leaves_record number }
 {

@@ -40,7 +40,8 @@ pub enum Response {
 }
 
 // How a command is answered, in one list for both modes: the answer is chosen with the move, and what
-// the command does stands between the two once, whichever mode it came in.
+// the command does stands between the two once, whichever mode it came in. It is flat, as `left_by` and
+// `sent_by` of specs/Answering.antt go over it.
 #[derive(Clone, Copy)]
 pub enum Answering {
     Nothing,

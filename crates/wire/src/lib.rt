@@ -23,7 +23,7 @@ pub struct Fields {
     pub crc_right: bool,
 }
 
-// What a frame with a right CRC7 commands.
+// What a frame with a right CRC7 commands. The index stays a number: any may come, and the definitions speak of it (`acted_of`).
 #[derive(Clone, Copy)]
 pub struct Command {
     pub index: u8,

@@ -4,6 +4,7 @@ use mathlib.Core.Path.{◌≡◌, refl, ap, ◌∙◌}
 use mathlib.Core.Bool.{Bool, true, false}
 use Prim.Native.Nat.{ℕ}
 use Rattle.command.specs.Command.{met_by}
+use Rattle.command.specs.declared.Met.{Met}
 use Rattle.card_record.specs.Record.{csd_protects}
 use Rattle.card_record.specs.declared.Card.{Card}
 use Rattle.spi.specs.Hearing.{heard_of}
@@ -42,4 +43,5 @@ returns-clause-answer c = let a = c.args in
     let m = a.memory.now in
     let p = a.map.now in
     let did : Heard = heard_of a.card.mode a.selected a.card.link (met_by a.card a.wins) a.command.index a.command.argument in at_card a.card a.wins a.selected a.command.index a.command.argument (seen (lent_of m p)) c.csd_protects-whole.result c.heard-given.result c.csd_protects-whole.ensures.answer
-    c.heard-given.ensures.answer
+    (c.heard-given.ensures.answer
+    ∙ ap (λ (met : Met). command_heard a.card.mode a.selected a.card.link met c.csd_protects-whole.result a.command.index a.command.argument (seen (lent_of m p))) c.met_by-met.ensures.answer)
