@@ -1,12 +1,12 @@
 // What every other crate shares: the refusals of document 01, the error of every call that may be
-// refused, and four small tools. The vocabulary of the contracts is in specs/, the laws that
+// refused, and three small tools. The vocabulary of the contracts is in specs/, the laws that
 // proofs share in proofs/.
 //
 // Offers: `Refusal`, `number`; `SECTOR`, `ERASE_GROUP`, `PROTECTION_GROUP`, `READ_BLOCK`;
-// `least`, `fill`, `copy`, `lay`.
+// `fill`, `copy`, `lay`.
 #![tactic(auto)]
 
-ghost use Rattle.std.specs.Prelude.{◌≡◌, min, length, replicate};
+ghost use Rattle.std.specs.Prelude.{◌≡◌, length, replicate};
 ghost use Rattle.base.specs.Output.{copied, fits, laid};
 ghost use Rattle.base.specs.Refusals.{number_of};
 
@@ -74,13 +74,6 @@ pub fn number(r: Refusal) -> u8
         Refusal::LockFailed => 20,
         Refusal::BlockCrosses => 21,
     }
-}
-
-// The smaller of two numbers.
-pub fn least(a: usize, b: usize) -> usize
-    ensures answer { result ≡ min a b }
-{
-    a.min(b)
 }
 
 // Every byte made one value.

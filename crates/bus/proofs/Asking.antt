@@ -12,7 +12,7 @@ use Rattle.base.proofs.Cases.{cases, both, both_left, both_right, guarded}
 use Rattle.base.specs.Choice.{unless}
 use Rattle.base.specs.Refusals.{by}
 use Rattle.moves.specs.Indices.{among}
-use Rattle.wire.specs.Frames.{framing_of}
+use Rattle.wire.specs.Frames.{framing_of, as_fields}
 use Rattle.bus.specs.Bus.{count_of, cards_of, with_cards, bus_indices, refused_on, damaged_card, command_for, framed_on, bus_frame}
 use Rattle.bus.specs.Hearing.{framing_asked, bus_asked, told_of}
 use Rattle.bus.specs.declared.Asked.{Asked}
@@ -22,7 +22,6 @@ use Rattle.bus.specs.declared.Framed.{Framed as Answered}
 use Rattle.std.specs.Prelude.{Result, Ok, Err}
 use Rattle.base.specs.declared.Refusal.{Refusal}
 use Rattle.wire.specs.declared.Fields.{Fields}
-use Rattle.wire.specs.Frames.{as_fields}
 
 -- ---- answered
 module _ (bus : Bus) where

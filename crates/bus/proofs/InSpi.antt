@@ -28,7 +28,6 @@ use Rattle.bus.specs.declared.Framed.{Framed as Answered}
 use Rattle.std.specs.Prelude.{Result, Ok, Err}
 use Rattle.base.specs.declared.Refusal.{Refusal}
 use Rattle.wire.specs.declared.Fields.{Fields}
-use Rattle.wire.specs.Frames.{as_fields}
 
 -- ---- at one card
 module _ (card : Card) where

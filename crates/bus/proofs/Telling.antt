@@ -44,9 +44,8 @@ use Rattle.bus.specs.declared.Bus.{Bus}
 use Rattle.bus.specs.declared.Framed.{Framed}
 use Rattle.bus.specs.declared.Heard.{Heard}
 use Rattle.shared_line.specs.Lowest.{Low, no_low}
-use Rattle.std.specs.Prelude.{is_some}
+use Rattle.std.specs.Prelude.{is_some, Result, Option, Ok, Some, None}
 use Rattle.bus.specs.declared.Turned.{Turned}
-use Rattle.std.specs.Prelude.{Result, Option, Ok, Some, None}
 use Rattle.base.specs.declared.Refusal.{Refusal}
 
 abbrev turned : Card → Heard → Turned

@@ -20,7 +20,6 @@ use Rattle.bus.specs.declared.Added.{Added}
 use Rattle.bus.specs.declared.Bus.{Bus}
 use Rattle.bus.specs.declared.Framed.{Framed as Answered}
 use Rattle.wire.specs.declared.Fields.{Fields}
-use Rattle.wire.specs.Frames.{as_fields}
 
 -- "a bus of up to 30 such cards"
 abbrev pub most : ℕ

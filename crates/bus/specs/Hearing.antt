@@ -23,7 +23,6 @@ use Rattle.bus.specs.declared.Heard.{Heard}
 use Rattle.bus.specs.declared.Turned.{Turned}
 use Rattle.base.specs.declared.Refusal.{Refusal}
 use Rattle.wire.specs.declared.Fields.{Fields}
-use Rattle.wire.specs.Frames.{as_fields}
 
 -- what a frame asks of a bus of so many cards: "at a bus 13, 1, 2, 3, 14", and else a command of all its cards
 abbrev pub framing_asked : Result Fields Refusal → Asked

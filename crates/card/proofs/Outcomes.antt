@@ -17,14 +17,13 @@ use Rattle.moves.specs.Indices.{among}
 use Rattle.card_record.specs.declared.Card.{Card}
 use Rattle.store.proofs.OnceLent.{once_lent_lem}
 use Rattle.store.specs.Lent.{Seen, lending_of}
-use Rattle.wire.specs.Frames.{crc7_of, field, fields_of, framing_of}
+use Rattle.wire.specs.Frames.{crc7_of, field, fields_of, framing_of, as_fields}
 use Rattle.card.specs.Frame.{FrameJudged, frame_refused, commanded, framed, frame_judged, spared_told}
 use Rattle.card_blocks.specs.declared.Stepped.{Stepped}
 use Rattle.spi.specs.Hearing.{heard_of, crc_passes, damaged_of}
 use Rattle.std.specs.Prelude.{Result, Ok, Err, None}
 use Rattle.base.specs.declared.Refusal.{Refusal}
 use Rattle.wire.specs.declared.Fields.{Fields}
-use Rattle.wire.specs.Frames.{as_fields}
 
 -- a frame: 12, 1, 2; 3, where its CRC7 is wrong and counts; a command that was read, its CRC7 right or not counting
 pub data FrameOutcome (card : Card) (wins selected : Bool) (frame : List ℕ) (seen : Seen) : FrameJudged → Type 0 where

@@ -25,7 +25,6 @@ use Rattle.store.specs.Map.{group_set}
 use Rattle.tags.specs.declared.Tags.{Tags}
 use Rattle.wire.specs.Frames.{framing_of}
 use Rattle.wire.specs.declared.Fields.{Fields}
-use Rattle.wire.specs.Frames.{as_fields}
 
 -- a frame judged: the answer, and what is to change in what is lent
 pub record FrameJudged : Type 0 where

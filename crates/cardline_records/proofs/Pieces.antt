@@ -14,7 +14,7 @@ use native.Mathlib.Omega.{arith}
 use lib.Dec.{leb}
 use lib.ListN.{length}
 use Rattle.base.proofs.Cases.{cases, clash}
-use Rattle.std.specs.Prelude.{Ok, Err}
+use Rattle.std.specs.Prelude.{Ok, Err, Result}
 use Rattle.cardline_looks.specs.Lines.{roomy}
 use Rattle.cardline_records.proofs.Reading.{same_text, same_buffers, same_said}
 use Rattle.cardline_records.specs.Makes.{card_made, make_said}
@@ -41,7 +41,6 @@ use Rattle.playing.proofs.Joined.{Steady, joined, stopped_whole, waited_whole}
 use Rattle.playing.specs.Playing.{Played, unplayed, played_of, next_piece, fed_all, all_of}
 use Rattle.playing.specs.declared.Then.TheVariants.{Goes, Stops, Waits, NoRoom}
 use Rattle.store.specs.Lent.{Lent}
-use Rattle.std.specs.Prelude.{Result, Ok, Err}
 use Rattle.base.specs.declared.Refusal.{Refusal}
 
 -- each kind of record has a byte or more

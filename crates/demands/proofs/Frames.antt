@@ -47,14 +47,12 @@ use Rattle.states.specs.States.{column_of}
 use Rattle.wire.proofs.FrameTheorems.{framing}
 use Rattle.store.proofs.OnceLent.{once_lent_lem}
 use Rattle.store.specs.Lent.{Lent, Seen, seen, lending_of, once_lent}
-use Rattle.wire.specs.Frames.{framing_of, checked}
+use Rattle.wire.specs.Frames.{framing_of, checked, as_fields, as_command}
 use Rattle.wire.specs.Frames as wire
 use Rattle.demands.specs.Silenced.{Reads, InMmc, Unlent}
 use Rattle.std.specs.Prelude.{Result, Option, Ok, Err, None}
 use Rattle.base.specs.declared.Refusal.{Refusal}
 use Rattle.wire.specs.declared.Fields.{Fields}
-use Rattle.wire.specs.Frames.{as_fields}
-use Rattle.wire.specs.Frames.{as_command}
 
 -- a frame at a card that is lent what is right for it
 pub judged_as : (card : Card) (wins selected : Bool) (frame : List ℕ) (seen : Seen) → lending_of seen card.registers.groups ≡ Ok tt

@@ -30,14 +30,13 @@ use Rattle.spi.specs.Hearing.{unheard, heard_of, crc_passes, damaged_of}
 use Rattle.spi.specs.declared.Heard.{Heard}
 use Rattle.status.specs.ErrorBits.{error_bit}
 use Rattle.store.specs.Lent.{Lent, Seen, seen, lending_of, once_lent}
-use Rattle.wire.specs.Frames.{framing_of}
+use Rattle.wire.specs.Frames.{framing_of, as_fields}
 use Rattle.demands.specs.InSpi.{LetOn, refuses3, is_reset, LineUnread, Ignored}
 use Rattle.demands.specs.Refused.{Refuses}
 use Rattle.demands.proofs.Frames.{judged_as, judged_stays, stepped_stays}
 use Rattle.std.specs.Prelude.{Result, Option, Ok, Err, None}
 use Rattle.base.specs.declared.Refusal.{Refusal}
 use Rattle.wire.specs.declared.Fields.{Fields}
-use Rattle.wire.specs.Frames.{as_fields}
 
 -- ---- 3
 -- a CRC7 counts where it would not pass

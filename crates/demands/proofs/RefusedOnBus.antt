@@ -24,12 +24,11 @@ use Rattle.moves.specs.Indices.{among}
 use Rattle.card_record.specs.Making.{refused_make}
 use Rattle.card_record.specs.declared.Card.{Card}
 use Rattle.spi.proofs.Laws.{is_inactive}
-use Rattle.wire.specs.Frames.{crc7_of, field, fields_of, framing_of}
+use Rattle.wire.specs.Frames.{crc7_of, field, fields_of, framing_of, as_fields}
 use Rattle.demands.specs.Refused.{damaged}
 use Rattle.demands.specs.RefusedOnBus.{frame_numbers, add_numbers, named_bus, RefusesFrame, FrameByNumber, RefusesCard, AddByNumber}
 use Rattle.std.specs.Prelude.{Result, Ok, Err}
 use Rattle.wire.specs.declared.Fields.{Fields}
-use Rattle.wire.specs.Frames.{as_fields}
 
 -- ---- a frame
 -- "3 sets bit 23 .. of every card, unless Inactive", and of none in SPI

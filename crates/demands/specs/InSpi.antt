@@ -22,11 +22,10 @@ use Rattle.status.specs.Status.{with_bit}
 use Rattle.status.specs.declared.ErrorBit.{ErrorBit}
 use Rattle.store.specs.Lent.{Lent, seen, lending_of}
 use Rattle.tags.specs.Tagging.{no_tags}
-use Rattle.wire.specs.Frames.{framing_of}
+use Rattle.wire.specs.Frames.{framing_of, as_fields}
 use Rattle.demands.specs.Refused.{inactive, noted, cleared, r1_from}
 use Rattle.base.specs.declared.Refusal.{Refusal}
 use Rattle.wire.specs.declared.Fields.{Fields}
-use Rattle.wire.specs.Frames.{as_fields}
 
 -- a frame that 12, 1 and 2 let on: it has an index, an argument, and a CRC7 that is right or wrong
 pub record LetOn (card : Card) (frame : List ℕ) (lent : Lent) (index argument : ℕ) (right : Bool) : Type 0 where

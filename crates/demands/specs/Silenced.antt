@@ -26,8 +26,7 @@ use Rattle.states.specs.declared.Column.TheVariants.{Idle, Ready, Ident, Tran, D
 use Rattle.status.specs.ErrorBits.{error_bit}
 use Rattle.status.specs.Status.{with_bit}
 use Rattle.store.specs.Lent.{Lent, seen, lending_of}
-use Rattle.wire.specs.Frames.{frame_of}
-use Rattle.wire.specs.Frames.{as_command}
+use Rattle.wire.specs.Frames.{frame_of, as_command}
 
 -- the table's column "Move" has nothing for a state
 abbrev pub none_from : Column → List (Column × Column) → Bool

@@ -34,13 +34,12 @@ use Rattle.spi.proofs.Laws.{damage_unchanged, damage_keeps_mode, damage_errors}
 use Rattle.spi.specs.Hearing.{heard_of, crc_passes, damaged_of}
 use Rattle.spi.specs.declared.Heard.{Heard}
 use Rattle.store.specs.Lent.{Lent, Seen, seen, lent_right, lending_of, once_lent}
-use Rattle.wire.specs.Frames.{field, fields_of, framing_of}
+use Rattle.wire.specs.Frames.{field, fields_of, framing_of, as_fields}
 use Rattle.firmware.specs.Answers.{outcome_number, met_at, byte_sent, leaves_record, frame_numbers, fronted}
 use Rattle.firmware.proofs.Sends.{damaged_byte}
 use Rattle.firmware.proofs.Told.{frame_left, linked}
 use Rattle.std.specs.Prelude.{Result, Option, Ok, Err, None}
 use Rattle.wire.specs.declared.Fields.{Fields}
-use Rattle.wire.specs.Frames.{as_fields}
 
 abbrev Unlent : Refusal → Result Unit Refusal → Type 0
 Unlent refusal lending = lending ≡ Err refusal → leaves_record (number_of refusal) ≡ true

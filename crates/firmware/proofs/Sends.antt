@@ -42,12 +42,11 @@ use Rattle.states.specs.States.{column_of, column_number}
 use Rattle.status.specs.declared.Errors.{Errors}
 use Rattle.store.specs.Lent.{Seen}
 use Rattle.wire.proofs.Told.{fields_told}
-use Rattle.wire.specs.Frames.{field, fields_of, framing_of}
+use Rattle.wire.specs.Frames.{field, fields_of, framing_of, as_fields}
 use Rattle.firmware.specs.Answers.{byte_sent}
 use Rattle.std.specs.Prelude.{Result, Option, Ok, Err, Some, None}
 use Rattle.base.specs.declared.Refusal.{Refusal}
 use Rattle.wire.specs.declared.Fields.{Fields}
-use Rattle.wire.specs.Frames.{as_fields}
 
 -- ---- an index has 6 bits
 index_small : (frame : List ℕ) → length frame ≡ 6 → field (bits frame) 2 6 ≤ 63

@@ -32,10 +32,9 @@ use Rattle.command.specs.Command.{met_by}
 use Rattle.spi.proofs.Laws.{stays_in_spi as heard_stays, is_inactive, enters as heard_enters, damage_keeps_mode}
 use Rattle.spi.specs.Hearing.{crc_passes}
 use Rattle.store.specs.Lent.{Seen, seen}
-use Rattle.wire.specs.Frames.{framing_of}
+use Rattle.wire.specs.Frames.{framing_of, as_fields}
 use Rattle.made.specs.Run.{World, Input, next, run_of}
 use Rattle.std.specs.Prelude.{Ok}
-use Rattle.wire.specs.Frames.{as_fields}
 
 -- a frame that brings a card into SPI
 pub record Enters (card : Card) (selected : Bool) (frame : List ℕ) : Type 0 where

@@ -3,8 +3,7 @@
 use Rattle.std.specs.Prelude.{◌≡◌, Bool, true, List, ℕ, Ok}
 use Rattle.card_record.specs.declared.Card.{Card}
 use Rattle.spi.specs.Hearing.{crc_passes}
-use Rattle.wire.specs.Frames.{framing_of}
-use Rattle.wire.specs.Frames.{as_fields}
+use Rattle.wire.specs.Frames.{framing_of, as_fields}
 
 -- in MMC mode its CRC7 is right, that is `frame_of frame ≡ Command index argument` (`read_in_mmc` of stored); in SPI "3 (CMD0 apart) .. come[s] only
 -- with CRC on", and "a frame with the line high is ignored"

@@ -34,7 +34,7 @@ use Rattle.spi.specs.Hearing.{heard_of}
 use Rattle.status.specs.Status.{word_of}
 use Rattle.store.specs.Lent.{seen_of}
 use Rattle.store.specs.Map.{entries_right}
-use Rattle.wire.specs.Frames.{crc7_of, sealed, fields_of, framing_of, frame_of}
+use Rattle.wire.specs.Frames.{crc7_of, sealed, fields_of, framing_of, frame_of, as_command}
 use Rattle.wire.specs.Responses.{r1_frame}
 use Rattle.marked.proofs.Transcript.{eight_lines_lem}
 use Rattle.marked.specs.Marked.{card_in, all, marked}
@@ -42,8 +42,6 @@ use Rattle.std.specs.Prelude.{Result, Ok, Err}
 use Rattle.base.specs.declared.Refusal.{Refusal}
 use Rattle.wire.specs.declared.Fields.{Fields}
 use Rattle.wire.specs.declared.Command.{Command}
-use Rattle.wire.specs.Frames.{as_fields}
-use Rattle.wire.specs.Frames.{as_command}
 
 -- what our card puts on the line for a frame, its select line being low (`selected`) or high, lent a memory of 8,192 bytes and its map
 abbrev pub ours : Bool → Card → List ℕ → List ℕ

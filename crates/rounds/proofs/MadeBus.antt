@@ -35,7 +35,6 @@ use Rattle.rounds.specs.MadeBus.{MadeBus}
 use Rattle.std.specs.Prelude.{Result, Ok, Err, Option, Some}
 use Rattle.base.specs.declared.Refusal.{Refusal}
 use Rattle.wire.specs.declared.Fields.{Fields}
-use Rattle.wire.specs.Frames.{as_fields}
 
 -- ---- lists of cards
 -- the cards of a bus after each is changed, however many places there are

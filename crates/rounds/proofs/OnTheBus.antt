@@ -21,13 +21,12 @@ use Rattle.bus.specs.declared.Bus.{Bus}
 use Rattle.bus.specs.declared.Framed.{Framed as Answered}
 use Rattle.card_record.specs.declared.Card.{Card}
 use Rattle.wire.proofs.FrameTheorems.{framing}
-use Rattle.wire.specs.Frames.{framing_of, frame_of}
+use Rattle.wire.specs.Frames.{framing_of, frame_of, as_command}
 use Rattle.rounds.proofs.OneRound.{cid_round, address_round, round, cid_commands, address_commands}
 use Rattle.rounds.specs.Demand3.{Round, IsCmd2, IsCmd3, Undamaged, AllUndamaged, round_of, rounds_of, before}
 use Rattle.std.specs.Prelude.{Result, Ok}
 use Rattle.base.specs.declared.Refusal.{Refusal}
 use Rattle.wire.specs.declared.Fields.{Fields}
-use Rattle.wire.specs.Frames.{as_command}
 
 abbrev pub Filled : Bus → Type 0
 Filled bus = (length bus.cards ≡ 30) × (1 ≤ count_of bus)

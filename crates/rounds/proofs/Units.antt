@@ -39,14 +39,13 @@ use Rattle.spi.proofs.Laws.{spi_high}
 use Rattle.spi.specs.Hearing.{unheard, heard_in_mmc, heard_of, damaged_of}
 use Rattle.spi.specs.declared.Heard.{Heard}
 use Rattle.store.specs.Lent.{Lent, seen, lending_of}
-use Rattle.wire.specs.Frames.{framing_of, checked, frame_of}
+use Rattle.wire.specs.Frames.{framing_of, checked, frame_of, as_fields}
 use Rattle.rounds.proofs.Demand3.{get_d_map}
 use Rattle.rounds.proofs.MadeBus.{changed}
 use Rattle.rounds.specs.Demand3.{card_at}
 use Rattle.std.specs.Prelude.{Result, Ok, Err, None}
 use Rattle.base.specs.declared.Refusal.{Refusal}
 use Rattle.wire.specs.declared.Fields.{Fields}
-use Rattle.wire.specs.Frames.{as_fields}
 
 -- ---- a command for the bus
 -- it sets and clears no group, and erases nothing

@@ -27,9 +27,8 @@ use Rattle.states.specs.States.{column_of, column_number}
 use Rattle.states.specs.declared.State.TheVariants.{Stby}
 use Rattle.status.specs.Status.{no_errors}
 use Rattle.tags.specs.Tagging.{no_tags}
-use Rattle.wire.specs.Frames.{frame_of}
+use Rattle.wire.specs.Frames.{frame_of, as_command}
 use Rattle.rounds.specs.Distinct.{distinct, rank, Ascending}
-use Rattle.wire.specs.Frames.{as_command}
 
 -- ---- rounds
 -- a bus that answers frames: from a bus and a frame, the bus afterwards and what the line shows

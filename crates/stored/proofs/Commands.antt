@@ -29,10 +29,8 @@ use Rattle.spi.proofs.Laws.{damage_unchanged}
 use Rattle.spi.specs.Hearing.{crc_passes}
 use Rattle.spi.specs.declared.Heard.{Heard}
 use Rattle.store.specs.Lent.{Seen}
-use Rattle.wire.specs.Frames.{checked, frame_of}
+use Rattle.wire.specs.Frames.{checked, frame_of, as_fields, as_command}
 use Rattle.std.specs.Prelude.{Ok}
-use Rattle.wire.specs.Frames.{as_fields}
-use Rattle.wire.specs.Frames.{as_command}
 
 -- ---- what changes in what is lent
 module _ (index argument : ℕ) where

@@ -59,15 +59,13 @@ use Rattle.spi.specs.declared.Heard.{Heard}
 use Rattle.spi_moves.specs.Moves.{row_of, move_of}
 use Rattle.states.specs.States.{column_of}
 use Rattle.store.specs.Lent.{Lent, Seen, seen}
-use Rattle.wire.specs.Frames.{framing_of}
+use Rattle.wire.specs.Frames.{framing_of, as_fields}
 use Rattle.stored.specs.Changes.{SetBy, ByteChanges, EntryChanges, payload_at, ForcedErase, Cause, written, erased, forced, MapCause, set}
-use Rattle.stored.specs.Locked.{LockedCard, UnlockGranted, Unlocking, none_stored, unlocked, Unmoved}
-use Rattle.stored.specs.Locked.{forced as by_force}
+use Rattle.stored.specs.Locked.{LockedCard, UnlockGranted, Unlocking, none_stored, unlocked, Unmoved, forced as by_force}
 use Rattle.stored.proofs.Changes.{forces_all, memory_changes, map_changes}
 use Rattle.stored.proofs.Commands.{FrameChange, nothing, protects, frees, erases, frame_change}
 use Rattle.stored.proofs.Requests.{Asks, fails, unlocks, others, erases as erased_all, asks}
 use Rattle.std.specs.Prelude.{Ok, Err, None}
-use Rattle.wire.specs.Frames.{as_fields}
 
 -- ---- memory and map
 module _ (card : Card) (wins selected : Bool) (frame : List ℕ) (seen : Seen) where

@@ -60,7 +60,7 @@ use Rattle.store.specs.Lent.{seen}
 use Rattle.store.specs.Map.{entries_right}
 use Rattle.wire.proofs.BlockTheorems.{long}
 use Rattle.wire.specs.Blocks.{block_of}
-use Rattle.wire.specs.Frames.{crc7_of, sealed, command_frame, fields_of, framing_of}
+use Rattle.wire.specs.Frames.{crc7_of, sealed, command_frame, fields_of, framing_of, as_fields}
 use Rattle.wire.specs.Responses.{last_byte, register_right}
 use Rattle.stored.specs.AfterReset.{made, Unset, Unwritable}
 use Rattle.stored.specs.ReadBack.{commanded, block_in, block_out}
@@ -69,7 +69,6 @@ use Rattle.stored.proofs.Framed.{start_length, request_right}
 use Rattle.stored.proofs.InUse.{lent, card_with, commands, to_tran, answer}
 use Rattle.std.specs.Prelude.{Result, Ok, Err, Some, None}
 use Rattle.base.specs.declared.Refusal.{Refusal}
-use Rattle.wire.specs.Frames.{as_fields}
 
 -- ---- the card
 abbrev holding_card : Bool → Lock → State → ℕ → World

@@ -38,12 +38,10 @@ use Rattle.states.specs.declared.State.TheVariants.{Rcv}
 use Rattle.store.specs.Lent.{Seen}
 use Rattle.store.specs.Map.{protected_in}
 use Rattle.tags.specs.Tags.{tagged_of}
-use Rattle.wire.specs.Frames.{framing_of}
+use Rattle.wire.specs.Frames.{framing_of, as_fields}
 use Rattle.stored.specs.Changes.{SetBy, GrantedWrite, payload_at, ForcedErase, Cause, written, erased as by_tag, forced, MapCause, set}
-use Rattle.stored.specs.Locked.{UnlockGranted, Unlocking, none_stored, unlocked}
-use Rattle.stored.specs.Locked.{forced as by_force}
+use Rattle.stored.specs.Locked.{UnlockGranted, Unlocking, none_stored, unlocked, forced as by_force}
 use Rattle.std.specs.Prelude.{Ok, Err}
-use Rattle.wire.specs.Frames.{as_fields}
 
 module _ (card : Card) (input : List ℕ) (seen : Seen) where
   -- a byte changes at a frame or at a block in, and at no other call

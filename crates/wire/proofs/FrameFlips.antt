@@ -21,10 +21,9 @@ use Rattle.crc.proofs.Bits.{below_take, bits_below, bits_octets, length_bits, le
 use Rattle.crc.proofs.Flips.{flip_below, flip_found}
 use Rattle.crc.proofs.Steps.{low7, p7}
 use Rattle.wire.specs.Flipped.{flipped, framing_bit}
-use Rattle.wire.specs.Frames.{crc7_of, field, fields_of, framing_of, checked, frame_of}
+use Rattle.wire.specs.Frames.{crc7_of, field, fields_of, framing_of, checked, frame_of, as_command}
 use Rattle.wire.proofs.FrameTheorems.{Sent, read}
 use Rattle.std.specs.Prelude.{Ok, Err}
-use Rattle.wire.specs.Frames.{as_command}
 
 -- a field of one bit is that bit
 one : (w : List ℕ) (j : ℕ) → j < length w → field w j 1 ≡ get_or w j 0

@@ -24,13 +24,12 @@ use Rattle.crc.specs.Bits.{bits_of, bits, spelt, octets}
 use Rattle.crc.specs.Crc.{check_sum, crc7}
 use Rattle.crc.proofs.Bits.{bits_append, bits_of_append, bits_of_low, bits_of_spelt, bits_of_below, below_append, octets_bits, spelt_bits_of}
 use Rattle.crc.proofs.Steps.{crc7_lt}
-use Rattle.wire.specs.Frames.{crc7_of, sealed, field, fields_of, framing_of}
+use Rattle.wire.specs.Frames.{crc7_of, sealed, field, fields_of, framing_of, as_fields}
 use Rattle.wire.specs.Responses.{last_byte, r3_frame}
 use Rattle.wire.specs.declared.R3.{R3}
 use Rattle.std.specs.Prelude.{Result, Ok, Err}
 use Rattle.base.specs.declared.Refusal.{Refusal}
 use Rattle.wire.specs.declared.Fields.{Fields}
-use Rattle.wire.specs.Frames.{as_fields}
 
 pub crc7_bits : (bs : List ℕ) → crc7_of (bits bs) ≡ crc7 bs
 unfolding crc7 check_sum crc7_of

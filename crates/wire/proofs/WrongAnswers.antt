@@ -34,7 +34,7 @@ use Rattle.base.specs.Refusals.{by}
 use Rattle.crc.specs.Bits.{bits_of, bits, octets}
 use Rattle.crc.specs.Crc.{divide, remainder, check_sum, crc7, crc16}
 use Rattle.wire.specs.Blocks.{block_of, block_written, checked_of}
-use Rattle.wire.specs.Frames.{crc7_of, sealed, command_frame, indexed, fields_of, framing_of}
+use Rattle.wire.specs.Frames.{crc7_of, sealed, command_frame, indexed, fields_of, framing_of, as_fields}
 use Rattle.wire.specs.Responses.{r1_frame, r2_frame, r3_frame, last_byte, register_right}
 use Rattle.wire.specs.declared.R1.{R1}
 use Rattle.wire.specs.declared.R2.{R2}
@@ -42,7 +42,6 @@ use Rattle.wire.specs.declared.R3.{R3}
 use Rattle.std.specs.Prelude.{Ok, Err}
 use Rattle.wire.specs.declared.Fields.{Fields}
 use Rattle.wire.proofs.Told.{fields_told}
-use Rattle.wire.specs.Frames.{as_fields}
 
 abbrev a1 : R1
 a1 = record { index = 16; status = 0x00000900 }

@@ -4,14 +4,12 @@ use mathlib.Core.Path.{◌≡◌, refl, sym, ap, ◌∙◌}
 use mathlib.Core.Bool.{Bool, true, false, not, ◌&&◌, ◌||◌}
 use mathlib.Core.List.{List}
 use Prim.Native.Nat.{ℕ, ◌-◌, ◌≤◌}
-use native.Mathlib.Omega.{arith}
-use borrow.Author.Tests.{le-leb, eq-eqb, not-false}
+use borrow.Author.Tests.{le-leb}
 use lib.Dec.{eqb}
 use lib.ListN.{length}
 use Rattle.base.proofs.Cases.{kept_by}
 use Rattle.base.specs.Refusals.{by}
 use Rattle.crc.specs.Crc.{crc16}
-use Rattle.wire.proofs.BlockTheorems.{good}
 use Rattle.wire.specs.Blocks.{crc_in, payload_of, checked_of}
 use Rattle.card_blocks.proofs.framing.crc_right.Goals as goal
 use Rattle.card_blocks.proofs.framing.crc_right.Goals.{then-mode, else-mode}
