@@ -11,6 +11,7 @@ use mathlib.Core.List.{List, ◌++◌}
 use Prim.Native.Nat.{ℕ}
 use lib.Dec.{eqb}
 use lib.ListN.{length, drop, set}
+use Rattle.firmware.specs.Numbers.{number_told}
 use Rattle.base.proofs.Cases.{guarded, clash}
 use Rattle.base.specs.Choice.{unless}
 use Rattle.base.specs.Refusals.{number_of, by}
@@ -35,7 +36,7 @@ use Rattle.spi.specs.Hearing.{heard_of, crc_passes, damaged_of}
 use Rattle.spi.specs.declared.Heard.{Heard}
 use Rattle.store.specs.Lent.{Lent, Seen, seen, lent_right, lending_of, once_lent}
 use Rattle.wire.specs.Frames.{field, fields_of, framing_of, as_fields}
-use Rattle.firmware.specs.Answers.{outcome_number, met_at, byte_sent, leaves_record, frame_numbers, fronted}
+use Rattle.firmware.specs.Answers.{met_at, byte_sent, leaves_record, frame_numbers, fronted}
 use Rattle.firmware.proofs.Sends.{damaged_byte}
 use Rattle.firmware.proofs.Told.{frame_left, linked}
 use Rattle.std.specs.Prelude.{Result, Option, Ok, Err, None}
@@ -84,7 +85,7 @@ module _ (numbers cid csd password : List ℕ) where
   module _ (wins selected : Bool) (frame : List ℕ) (lent : Lent) where
     abbrev By : Stepped → Lent → ℕ → List ℕ → Lent → List ℕ → List ℕ → ℕ → Type 0
     By stepped left r after now answer told sent =
-        (r ≡ outcome_number stepped.reply.outcome)
+        (r ≡ number_told stepped.reply.outcome)
         × (((after ≡ frame_numbers r stepped.card numbers) × (card_of after cid csd password ≡ stepped.card))
         × ((now ≡ left)
         × ((told ≡ fronted (sent_bytes card.registers stepped.reply.sent) answer) × (sent ≡ length (sent_bytes card.registers stepped.reply.sent)))))

@@ -9,6 +9,7 @@ use mathlib.Core.Bool.{true, false}
 use mathlib.Core.List.{List, ◌++◌}
 use Prim.Native.Nat.{ℕ}
 use lib.ListN.{length, drop}
+use Rattle.firmware.specs.Numbers.{number_told}
 use Rattle.base.specs.Refusals.{number_of}
 use Rattle.base.specs.declared.Refusal.{Refusal}
 use Rattle.card_blocks.specs.BlockIn.{unread, state_judged, block_judged, stored_by}
@@ -22,7 +23,7 @@ use Rattle.card_record.specs.declared.Card.{Card}
 use Rattle.crossing.proofs.Crossing.{link_and_lock_told, own_password}
 use Rattle.crossing.specs.Record.{link_of, mode_of, lock_of, card_of, link_numbers, mode_numbers, lock_numbers}
 use Rattle.store.specs.Lent.{Lent, seen, lending_of, once_lent}
-use Rattle.firmware.specs.Answers.{outcome_number, byte_sent, leaves_record, numbers_after, fronted, wrote_of}
+use Rattle.firmware.specs.Answers.{byte_sent, leaves_record, numbers_after, fronted, wrote_of}
 use Rattle.firmware.proofs.Kept.{Stays, InKept, in_kept, in_stays, OutKept, out_kept, out_stays}
 use Rattle.firmware.proofs.Sends.{in_byte}
 use Rattle.firmware.proofs.Told.{lock_front, after_left, after_told, linked}
@@ -41,7 +42,7 @@ module _ (numbers cid csd password : List ℕ) where
 
     abbrev InBy : Stepped → Lent → ℕ → List ℕ → List ℕ → Lent → List ℕ → ℕ → Type 0
     InBy stepped left r after secret now told sent =
-        (r ≡ outcome_number stepped.reply.outcome)
+        (r ≡ number_told stepped.reply.outcome)
         × (((after ≡ numbers_after r (told_in stepped.card) numbers) × (card_of after cid csd secret ≡ stepped.card))
         × ((secret ≡ stepped.card.lock.password)
         × ((now ≡ left)
@@ -84,7 +85,7 @@ module _ (numbers cid csd password : List ℕ) where
           × (sent ≡ length (sent_bytes card.registers stepped.reply.sent))
       responds = (bytes ∙ ap (λ (l : List ℕ). fronted l response) one_byte, count ∙ ap length one_byte)
 
-      pub in_left : (r : ℕ) (now : Lent) → r ≡ outcome_number stepped.reply.outcome → leaves_record r ≡ true → now ≡ left_in judged_in
+      pub in_left : (r : ℕ) (now : Lent) → r ≡ number_told stepped.reply.outcome → leaves_record r ≡ true → now ≡ left_in judged_in
           → InLeft r numbers password now told sent
       in_left r now n leaves stored =
           let stays = subst (Stays card) (sym same) (in_stays card block (seen lent)) (ap leaves_record (sym n) ∙ leaves) in
@@ -92,7 +93,7 @@ module _ (numbers cid csd password : List ℕ) where
           subst (λ (s : Stepped). InBy s (left_in judged_in) r numbers password now told sent) same
           (n, ((after_left r (told_in stepped.card) numbers leaves, sym stays), (sym secret, (stored, responds))))
 
-      pub in_told : (r : ℕ) (after : List ℕ) (now : Lent) → r ≡ outcome_number stepped.reply.outcome → leaves_record r ≡ false
+      pub in_told : (r : ℕ) (after : List ℕ) (now : Lent) → r ≡ number_told stepped.reply.outcome → leaves_record r ≡ false
           → after ≡ told_in stepped.card ++ drop 11 numbers
           → (link_of after ≡ stepped.card.link) × (mode_of after ≡ stepped.card.mode)
           × (lock_of after stepped.card.lock.password ≡ stepped.card.lock) → now ≡ left_in judged_in
@@ -114,7 +115,7 @@ module _ (numbers cid csd password : List ℕ) where
   module _ (lent : Lent) (out : List ℕ) where
     abbrev OutBy : Stepped → List ℕ → ℕ → List ℕ → List ℕ → ℕ → Type 0
     OutBy stepped left r after now written =
-        (r ≡ outcome_number stepped.reply.outcome)
+        (r ≡ number_told stepped.reply.outcome)
         × (((after ≡ numbers_after r (link_numbers stepped.card.link ++ mode_numbers stepped.card.mode) numbers) × (card_of after cid csd password ≡ stepped.card))
         × ((now ≡ left) × (written ≡ wrote_of stepped.reply.outcome)))
 
@@ -138,7 +139,7 @@ module _ (numbers cid csd password : List ℕ) where
         (n, ((after_left r (link_numbers card.link ++ mode_numbers card.mode) numbers leaves, refl), (refl, refl)))
 
     pub out_left : (stepped : Stepped) (r : ℕ) (now : List ℕ) (written : ℕ) → stepped ≡ judged_out.stepped
-        → r ≡ outcome_number stepped.reply.outcome → leaves_record r ≡ true → now ≡ sent_out card lent judged_out.sending out
+        → r ≡ number_told stepped.reply.outcome → leaves_record r ≡ true → now ≡ sent_out card lent judged_out.sending out
         → written ≡ wrote_of stepped.reply.outcome → OutLeft r numbers now written
     out_left stepped r now written same n leaves sent count =
         let stays = subst (Stays card) (sym same) (out_stays card (seen lent) (length out)) (ap leaves_record (sym n) ∙ leaves) in
@@ -146,7 +147,7 @@ module _ (numbers cid csd password : List ℕ) where
         (n, ((after_left r (link_numbers stepped.card.link ++ mode_numbers stepped.card.mode) numbers leaves, sym stays), (sent, count)))
 
     pub out_told : (stepped : Stepped) (r : ℕ) (after now : List ℕ) (written : ℕ) → stepped ≡ judged_out.stepped
-        → r ≡ outcome_number stepped.reply.outcome → leaves_record r ≡ false
+        → r ≡ number_told stepped.reply.outcome → leaves_record r ≡ false
         → after ≡ link_numbers stepped.card.link ++ mode_numbers stepped.card.mode ++ drop 9 numbers
         → (link_of after ≡ stepped.card.link) × (mode_of after ≡ stepped.card.mode)
         → now ≡ sent_out card lent judged_out.sending out → written ≡ wrote_of stepped.reply.outcome → OutLeft r after now written

@@ -58,9 +58,9 @@ use Rattle.spi_moves.specs.Moves.{row_of, move_of}
 use Rattle.store.specs.Lent.{seen_of}
 use Rattle.store.specs.Map.{entries_right}
 use Rattle.wire.specs.Blocks.{block_of}
-use Rattle.firmware.specs.Answers.{outcome_number, met_at, byte_sent, fronted, numbers_after, frame_numbers, worked_number, won_by, selected_by, wrote_of}
-use Rattle.firmware.specs.Numbers.{written_number, checked_number, index_read, argument_read}
-use Rattle.std.specs.Prelude.{Ok, Err, Some}
+use Rattle.firmware.specs.Answers.{met_at, byte_sent, fronted, numbers_after, frame_numbers, worked_number, won_by, selected_by, wrote_of}
+use Rattle.firmware.specs.Numbers.{number_told, index_read, argument_read}
+use Rattle.std.specs.Prelude.{Ok, Err, Some, Option}
 use Rattle.wire.specs.Frames.{as_command}
 
 index_not_told : index_read (Ok (as_command 17 0x12345)) 0 ≡ 0 → ⊥
@@ -72,13 +72,13 @@ index_cleared e = omega arith
 argument_cleared : argument_read (Err (by 3)) 0x12345 ≡ 0 → ⊥
 argument_cleared e = omega arith
 
-done_told_as_refused : written_number (Ok 6) ≡ 6 → ⊥
+done_told_as_refused : number_told {A = ℕ} (Ok 6) ≡ 6 → ⊥
 done_told_as_refused e = omega arith
 
-refused_told_as_done : written_number (Err (by 6)) ≡ 0 → ⊥
+refused_told_as_done : number_told {A = ℕ} (Err (by 6)) ≡ 0 → ⊥
 refused_told_as_done e = omega arith
 
-checked_told_as_good : checked_number (Err (by 17)) ≡ 0 → ⊥
+checked_told_as_good : number_told {A = ℕ} (Err (by 17)) ≡ 0 → ⊥
 checked_told_as_good e = omega arith
 
 -- ---- the sums
@@ -132,7 +132,7 @@ worked_rewritten e = omega arith
 refused_told_bytes : wrote_of (Err (by 18)) ≡ 514 → ⊥
 refused_told_bytes e = omega arith
 
-sent_told_as_refused : outcome_number (Ok (Some 6)) ≡ 6 → ⊥
+sent_told_as_refused : number_told {A = Option ℕ} (Ok (Some 6)) ≡ 6 → ⊥
 sent_told_as_refused e = omega arith
 
 -- a lock request of three bytes at a card with no password: set one of one byte, 9

@@ -12,11 +12,6 @@ use Rattle.moves.specs.Indices.{among}
 use Rattle.base.specs.declared.Refusal.{Refusal}
 
 -- 0 for a call that was carried out, else the number of its refusal
-abbrev pub outcome_number : Result (Option ℕ) Refusal → ℕ
-outcome_number (Ok None) = 0
-outcome_number (Ok (Some n)) = 0
-outcome_number (Err refusal) = number_of refusal
-
 -- what C says of the line: 0 that the unit lost it, any other number that it won
 abbrev pub won_by : ℕ → Bool
 won_by won = not (eqb won 0)
@@ -54,10 +49,6 @@ frame_numbers number next before =
 -- the state's number when work is done: "prg to tran and dis to stby, and .. no other"
 abbrev pub worked_number : ℕ → ℕ
 worked_number number = pick (eqb number 11) 4 (pick (eqb number 12) 3 number)
-
-abbrev pub making_number : Result Unit Refusal → ℕ
-making_number (Ok tt) = 0
-making_number (Err refusal) = number_of refusal
 
 -- how many bytes a block out wrote
 abbrev pub wrote_of : Result (Option ℕ) Refusal → ℕ

@@ -5,17 +5,9 @@ use Rattle.base.specs.Refusals.{number_of}
 use Rattle.base.specs.declared.Refusal.{Refusal}
 use Rattle.wire.specs.declared.Command.{Command}
 
-abbrev pub frame_number : Result Command Refusal → ℕ
-frame_number (Ok command) = 0
-frame_number (Err refusal) = number_of refusal
-
-abbrev pub written_number : Result ℕ Refusal → ℕ
-written_number (Ok n) = 0
-written_number (Err refusal) = number_of refusal
-
-abbrev pub checked_number : Result ℕ Refusal → ℕ
-checked_number (Ok n) = 0
-checked_number (Err refusal) = number_of refusal
+abbrev pub number_told : {A : Type 0} → Result A Refusal → ℕ
+number_told (Ok given) = 0
+number_told (Err refusal) = number_of refusal
 
 -- the lent index after a frame was read: the command's, or what it held before
 abbrev pub index_read : Result Command Refusal → ℕ → ℕ

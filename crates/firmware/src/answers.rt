@@ -1,17 +1,17 @@
 // What a call at a card tells C beside the record.
+ghost use Rattle.firmware.specs.Numbers.{number_told};
 ghost use Rattle.std.specs.Prelude.{◌≡◌, ◌≤◌, length};
-ghost use Rattle.firmware.specs.Answers.{outcome_number, making_number, leaves_record, byte_sent, fronted, wrote_of};
+ghost use Rattle.firmware.specs.Answers.{leaves_record, byte_sent, fronted, wrote_of};
 
 use base::Refusal;
 use card_record::Sent;
 
-// The number of what became of a call.
-pub fn outcome_number(outcome: Result<Option<usize>, Refusal>) -> u8
-    ensures answer { result ≡ outcome_number outcome }
+// The number of what became of a call, whatever a call that was carried out gives.
+pub fn number_told<T: Copy>(answer: Result<T, Refusal>) -> u8
+    ensures answer { result ≡ number_told answer }
 {
-    match outcome {
-        Ok(None) => 0,
-        Ok(Some(_)) => 0,
+    match answer {
+        Ok(_) => 0,
         Err(refusal) => base::number(refusal),
     }
 }
@@ -23,16 +23,6 @@ pub fn leaves_record(number: u8) -> bool
     ensures answer { result ≡ leaves_record number }
 {
     matches!(number, 1 | 2 | 6 | 12 | 15)
-}
-
-// The number of what became of a make.
-pub fn making_number(making: Result<(), Refusal>) -> u8
-    ensures answer { result ≡ making_number making }
-{
-    match making {
-        Ok(()) => 0,
-        Err(refusal) => base::number(refusal),
-    }
 }
 
 // How many bytes a block out wrote.

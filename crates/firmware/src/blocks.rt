@@ -1,6 +1,7 @@
 // Blocks at a card, for C. What is lent is judged on the numbers as they are, and then the record is
 // taken in. A block out changes the link alone, a block in the lock too. The mode is told with the link,
 // and nothing else.
+ghost use Rattle.firmware.specs.Numbers.{number_told};
 ghost use Rattle.std.specs.Prelude.{◌++◌, ◌≡◌, length};
 ghost use Rattle.card_blocks.specs.BlockIn.{block_judged};
 ghost use Rattle.card_blocks.specs.BlockOut.{out_judged};
@@ -9,9 +10,9 @@ ghost use Rattle.card.specs.declared.Call.TheVariants.{BlockIn, BlockOut};
 ghost use Rattle.card_record.specs.Sending.{sent_bytes};
 ghost use Rattle.crossing.specs.Record.{card_of, link_numbers, mode_numbers, lock_numbers};
 ghost use Rattle.store.specs.Lent.{lent_of, seen};
-ghost use Rattle.firmware.specs.Answers.{outcome_number, numbers_after, fronted, wrote_of};
+ghost use Rattle.firmware.specs.Answers.{numbers_after, fronted, wrote_of};
 
-use crate::answers::{leaves_record, outcome_number, send_byte, wrote};
+use crate::answers::{leaves_record, number_told, send_byte, wrote};
 use crossing::{card_of, groups_of, tell_link, tell_link_and_lock};
 
 // A block in: 12, 15, 16, 17, 18, 19 or 20. Only this call may change the password. The data response
@@ -31,7 +32,7 @@ pub extern "C" fn mmc_parts_block_in(
     ensures answer { let card = card_of numbers.old cid.now csd.now password.old in
         let lent = lent_of memory.old map.old in
         let stepped = (block_judged card block.now (seen lent)).stepped in
-        result ≡ outcome_number stepped.reply.outcome }
+        result ≡ number_told stepped.reply.outcome }
     ensures numbers { let card = card_of numbers.old cid.now csd.now password.old in
         let lent = lent_of memory.old map.old in
         let stepped = (block_judged card block.now (seen lent)).stepped in
@@ -66,7 +67,7 @@ pub extern "C" fn mmc_parts_block_in(
     let outcome = reply.outcome;
     let responded = reply.sent;
     *sent = send_byte(responded, response);
-    let number = outcome_number(outcome);
+    let number = number_told(outcome);
     if leaves_record(number) {
         return number;
     }
@@ -95,7 +96,7 @@ pub extern "C" fn mmc_parts_block_out(
     ensures answer { let card = card_of numbers.old cid.now csd.now password.now in
         let lent = lent_of memory.now map.now in
         let stepped = (out_judged card (seen lent) (length out.old)).stepped in
-        result ≡ outcome_number stepped.reply.outcome }
+        result ≡ number_told stepped.reply.outcome }
     ensures numbers { let card = card_of numbers.old cid.now csd.now password.now in
         let lent = lent_of memory.now map.now in
         let stepped = (out_judged card (seen lent) (length out.old)).stepped in
@@ -118,7 +119,7 @@ pub extern "C" fn mmc_parts_block_out(
     let card = card_of(*numbers, *cid, *csd, *password);
     let stepped = card_blocks::given_out(card, memory, map, out);
     *written = wrote(stepped.reply.outcome);
-    let number = outcome_number(stepped.reply.outcome);
+    let number = number_told(stepped.reply.outcome);
     if leaves_record(number) {
         return number;
     }

@@ -1,6 +1,7 @@
 // A frame at a card, for C. What is lent and the framing are judged on the numbers as they are, and of
 // the record only the link and the mode then cross: no frame changes the lock or the registers, and a
 // damaged one nothing but the error bits.
+ghost use Rattle.firmware.specs.Numbers.{number_told};
 ghost use Rattle.std.specs.Prelude.{◌++◌, ◌≡◌, ◌≤◌, length, drop, set};
 ghost use Rattle.card.specs.Frame.{changed, frame_stepped, command_heard};
 ghost use Rattle.card.specs.Step.{lent_after};
@@ -10,7 +11,7 @@ ghost use Rattle.card_record.specs.Sending.{sent_bytes, Sendable};
 ghost use Rattle.crossing.specs.Record.{card_of, link_of, link_numbers, mode_of, mode_numbers, registers_of};
 ghost use Rattle.spi.specs.Hearing.{heard_of, damaged_of};
 ghost use Rattle.store.specs.Lent.{lent_of, seen};
-ghost use Rattle.firmware.specs.Answers.{outcome_number, met_at, byte_sent, frame_numbers, won_by, selected_by, fronted};
+ghost use Rattle.firmware.specs.Answers.{met_at, byte_sent, frame_numbers, won_by, selected_by, fronted};
 
 use crate::answers::send_byte;
 use base::Refusal;
@@ -138,7 +139,7 @@ pub extern "C" fn mmc_parts_frame(
     ensures answer { let card = card_of numbers.old cid.now csd.now password.now in
         let lent = lent_of memory.old map.old in
         let stepped = frame_stepped card (won_by won) (selected_by selected) frame.now (seen lent) in
-        result ≡ outcome_number stepped.reply.outcome }
+        result ≡ number_told stepped.reply.outcome }
     ensures numbers { let card = card_of numbers.old cid.now csd.now password.now in
         let lent = lent_of memory.old map.old in
         let stepped = frame_stepped card (won_by won) (selected_by selected) frame.now (seen lent) in

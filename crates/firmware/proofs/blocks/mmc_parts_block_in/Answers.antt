@@ -72,7 +72,7 @@ returns-then-leaves_record c =
     let stored = stored_as numbers cid csd password block response lent _ _ lending taken does.lent in
     let sends = c.send_byte.ensures in
     let left =
-    in_left numbers cid csd password block lent response _ stepped _ _ sends.output sends.answer _ _ c.outcome_number-number.ensures.answer
+    in_left numbers cid csd password block lent response _ stepped _ _ sends.output sends.answer _ _ c.number_told-number.ensures.answer
     (sym c.leaves_record.ensures.answer ∙ c.if-leaves_record.true) stored
     in
     record { answer = left.0; numbers = left.1.0; password = left.1.1.0; lent = left.1.1.1.0; sent = left.1.1.1.1 }
@@ -95,7 +95,7 @@ returns c =
     let sends = c.send_byte.ensures in
     let told = c.tell_link_and_lock.ensures in
     let left =
-    in_told numbers cid csd password block lent response _ stepped _ _ sends.output sends.answer _ _ _ c.outcome_number-number.ensures.answer
+    in_told numbers cid csd password block lent response _ stepped _ _ sends.output sends.answer _ _ _ c.number_told-number.ensures.answer
     (sym c.leaves_record.ensures.answer ∙ c.if-leaves_record.false) told.numbers told.crossing stored
     in
     record { answer = left.0; numbers = left.1.0; password = left.1.1.0; lent = left.1.1.1.0; sent = left.1.1.1.1 }

@@ -64,7 +64,7 @@ returns-then-leaves_record c =
     let stepped = stepped_as numbers cid csd password out lent _ _ lending taken does.answer in
     let sent = sent_as numbers cid csd password out lent _ _ lending taken does.output in
     let left =
-    out_left numbers cid csd password lent out _ _ _ _ stepped c.outcome_number-number.ensures.answer
+    out_left numbers cid csd password lent out _ _ _ _ stepped c.number_told-number.ensures.answer
     (sym c.leaves_record.ensures.answer ∙ c.if-leaves_record.true) sent c.wrote.ensures.answer
     in
     record { answer = left.0; numbers = left.1.0; output = left.1.1.0; written = left.1.1.1 }
@@ -85,7 +85,7 @@ returns c =
     let sent = sent_as numbers cid csd password out lent _ _ lending taken does.output in
     let told = c.tell_link.ensures in
     let left =
-    out_told numbers cid csd password lent out _ _ _ _ _ stepped c.outcome_number-number.ensures.answer
+    out_told numbers cid csd password lent out _ _ _ _ _ stepped c.number_told-number.ensures.answer
     (sym c.leaves_record.ensures.answer ∙ c.if-leaves_record.false) told.numbers told.crossing sent c.wrote.ensures.answer
     in
     record { answer = left.0; numbers = left.1.0; output = left.1.1.0; written = left.1.1.1 }
