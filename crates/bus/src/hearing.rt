@@ -25,6 +25,7 @@ fn on_bus(index: u8) -> bool
 }
 
 // What a frame asks of a bus of so many cards: 13, 1, 2, 3, 14, and else a command.
+#[tactic(auto, unfolding(crate::specs::Hearing::bus_asked))]
 pub fn asked_of(count: usize, frame: &[u8]) -> Asked
     ensures { result ≡ bus_asked count frame.now }
 {

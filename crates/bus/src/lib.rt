@@ -97,6 +97,7 @@ pub fn empty() -> Bus
 }
 
 // A card in the next place: 13 where there is none.
+#[tactic(auto, unfolding(crate::specs::Bus::added_to))]
 pub fn add(bus: Bus, card: Card) -> Added
     ensures answer { result ≡ added_to bus card }
 {

@@ -96,6 +96,7 @@ pub fn powered(lock: Lock) -> Lock
 }
 
 // The record of a card made with a password: 11.
+#[tactic(auto, unfolding(crate::specs::Passwords::lock_made))]
 pub fn make(password: &[u8]) -> Result<Lock, Refusal>
     ensures answer { result ≡ lock_made password.now }
 {

@@ -79,6 +79,7 @@ fn buffer_empty(on: Column) -> bool
 }
 
 // The status of a card that was in the state `on` when it received the command.
+#[tactic(auto, unfolding(crate::specs::Status::word_of))]
 pub fn word(errors: Errors, locked: bool, on: Column) -> u32
     ensures answer { result ≡ word_of errors locked on }
 {
