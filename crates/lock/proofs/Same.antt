@@ -1,21 +1,19 @@
--- Laws of `same`: it is equality, and what the library's `starts_with` tests.
+-- Laws of `same`: it is equality, and how a comparison byte by byte reaches it.
 --   same_itself   a list is the same as itself
 --   same_equal    two lists that are the same are equal
 --   same_differ   two lists that are not equal are not the same
 --   same_length   so lists of different lengths, as a prefix and what it is a prefix of, are not the same
---   same_begins   whether a list begins with another is whether as many of its first are the same
+--   miss          different at a place below n, and so in the first n
 -- Assumes nothing.
-use mathlib.Core.Path.{◌≡◌, refl, ap, ap₂}
+use mathlib.Core.Path.{◌≡◌, refl, sym, ap, ap₂, ◌∙◌}
 use mathlib.Core.Bool.{true, false}
 use mathlib.Core.List.{List, [], ◌∷◌}
-use Prim.Native.Nat.{ℕ}
-use native.Mathlib.Omega.{arith}
+use Prim.Native.Nat.{ℕ, ◌<◌}
 use borrow.Author.Tests.{eq-eqb, eqb-true}
 use lib.Dec.{eqb}
-use lib.Pointwise.{pointwise}
-use lib.ListN.{length, take}
+use lib.ListN.{length, take, get_or}
+use lib.Seq.{get_or-take}
 use Rattle.base.proofs.Cases.{cases, never}
-use Rattle.std.specs.List.{starts_with}
 use Rattle.lock.specs.Passwords.{same}
 
 pub same_itself : (l : List ℕ) → same l l ≡ true
@@ -39,12 +37,7 @@ same_differ a b ne = cases (same a b) (λ (t : same a b ≡ true). absurd (ne (s
 pub same_length : (a b : List ℕ) → (length a ≡ length b → ⊥) → same a b ≡ false
 same_length a b ne = same_differ a b (λ (e : a ≡ b). ne (ap length e))
 
-pointwise_same : (a b : List ℕ) → pointwise eqb b a ≡ same a b
-unfolding same
-pointwise_same [] [] = refl
-pointwise_same [] (y ∷ ys) = refl
-pointwise_same (x ∷ xs) [] = refl
-pointwise_same (x ∷ xs) (y ∷ ys) = grind (arith, pointwise_same xs ys)
-
-pub same_begins : (s t : List ℕ) → starts_with eqb s t ≡ same (take (length t) s) t
-same_begins s t = pointwise_same (take (length t) s) t
+pub miss : (s t : List ℕ) (i n : ℕ) → i < n → (get_or s i 0 ≡ get_or t i 0 → ⊥) → same (take n s) (take n t) ≡ false
+miss s t i n h ne =
+    same_differ (take n s) (take n t)
+    (λ (e : take n s ≡ take n t). ne (sym (get_or-take n s i 0 h) ∙ ap (λ (l : List ℕ). get_or l i 0) e ∙ get_or-take n t i 0 h))

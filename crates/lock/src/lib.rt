@@ -115,12 +115,19 @@ fn long_enough(payload: &[u8]) -> bool
     2 <= payload.len() && 2 + payload[1] as usize <= payload.len()
 }
 
-// Whether the bytes from byte 2 on, of which there are enough, begin with the stored password.
+// Whether the bytes from byte 2 on, of which there are enough, begin with the stored password. Byte
+// by byte: `starts_with` takes 30 instructions more of a password set.
 fn matches(lock: Lock, payload: &[u8]) -> bool
     requires { 2 + length (stored lock) ≤ length payload.now }
     ensures { result ≡ same (take (length (stored lock)) (drop 2 payload.now)) (stored lock) }
 {
-    payload[2..].starts_with(&lock.password[..held(lock)])
+    let n = held(lock);
+    for i in 0..n {
+        if payload[2 + i] != lock.password[i] {
+            return false;
+        }
+    }
+    true
 }
 
 // Whether the block carries the stored password, all of it and no more.

@@ -213,7 +213,9 @@ fn erase_sector(
 }
 
 // Every tagged sector outside protection erased. The answer is whether any was spared. Only the
-// sectors that the tags reach are looked at.
+// sectors that the tags reach are looked at. Never copied into a caller, whose stack would hold the
+// 512 bytes at every command.
+#[inline(never)]
 #[tactic(auto, unfolding(crate::specs::Erase::erased_sector))]
 pub fn erase(memory: &mut [u8], map: &[u8], tags: Tags, whole: bool) -> bool
     ensures answer { result ≡ any_spared map.now tags whole (length (contents memory.old)) }
