@@ -35,7 +35,7 @@
 -- Assumes nothing.
 use mathlib.Core.Bool.{true, false}
 use mathlib.Core.List.{List, [], ◌∷◌, ◌++◌}
-use mathlib.Core.Path.{◌≡◌, ap, ◌∙◌}
+use mathlib.Core.Path.{◌≡◌, refl, ap}
 use Rattle.base.proofs.Cases.{clash}
 use Prim.Native.Nat.{ℕ, ◌-◌}
 use native.Mathlib.Omega.{arith}
@@ -118,11 +118,9 @@ untaken_found : (card : Card) → taken_from (bus (ready 1 ∷ [])) 1 ≡ Some c
 unfolding taken_from
 untaken_found card e = clash cc
 
-first_for_second : (card : Card) → taken_from (bus (ready 1 ∷ ready 2 ∷ [])) 1 ≡ Some card → card.registers.cid ≡ (ready 1).registers.cid → ⊥
+first_for_second : (card : Card) × ((taken_from (bus (ready 1 ∷ ready 2 ∷ [])) 1 ≡ Some card) × (card.registers.cid ≡ (ready 1).registers.cid → ⊥))
 unfolding taken_from
-first_for_second card e first =
-    let second : ready 2 ≡ card = cc in
-    let z : ◌≡◌ {A = ℕ} 2 1 = ap (λ (l : List ℕ). get_or l 15 0) (ap (λ (x : Card). x.registers.cid) second ∙ first) in omega arith
+first_for_second = (ready 2, (refl, λ e. let z : ◌≡◌ {A = ℕ} 2 1 = ap (λ (l : List ℕ). get_or l 15 0) e in omega arith))
 
 put_adds : (put_into (bus (ready 1 ∷ [])) 1 (ready 2)).count ≡ 2 → ⊥
 unfolding put_into

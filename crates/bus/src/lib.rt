@@ -43,6 +43,7 @@ pub struct Framed {
 
 // What a frame asks of a bus: a command of all its cards; that they are told of a wrong CRC7; or
 // nothing, and the refusal.
+// No Result: a wrong CRC7 is a refusal that changes cards, so neither a value nor an error alone.
 #[derive(Clone, Copy)]
 pub enum Asked {
     Command { index: u8, argument: u32 },

@@ -10,7 +10,6 @@ use Rattle.crossing.specs.Record.{groups_of, locked_of, link_numbers, mode_numbe
 use Rattle.moves.specs.Indices.{among}
 use Rattle.base.specs.declared.Refusal.{Refusal}
 
--- 0 for a call that was carried out, else the number of its refusal
 -- what C says of the line: 0 that the unit lost it, any other number that it won
 abbrev pub won_by : ℕ → Bool
 won_by won = not (eqb won 0)

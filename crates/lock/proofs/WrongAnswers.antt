@@ -13,7 +13,7 @@
 --   six_locks            byte 0 = 6
 --   cleared_leaves_bytes clear that leaves the password's bytes behind its length of 0
 -- Assumes nothing.
-use mathlib.Core.Path.{◌≡◌, sym, ap, ◌∙◌}
+use mathlib.Core.Path.{◌≡◌, refl, sym, ap}
 use mathlib.Core.Bool.{true, false}
 use mathlib.Core.List.{List, [], ◌∷◌}
 use Prim.Native.Nat.{ℕ}
@@ -45,10 +45,9 @@ powered_unlocks : (powered_of locked).locked ≡ false → ⊥
 unfolding holding powered_of stored
 powered_unlocks e = never (sym e)
 
-made_unlocked : (lock : Lock) → lock_made (7 ∷ 9 ∷ []) ≡ Ok lock → lock.locked ≡ false → ⊥
+made_unlocked : (lock : Lock) × ((lock_made (7 ∷ 9 ∷ []) ≡ Ok lock) × (lock.locked ≡ false → ⊥))
 unfolding lock_made holding powered_of stored
-made_unlocked lock e unlocked =
-    let made : powered_of (holding (7 ∷ 9 ∷ []) false) ≡ lock = cc in never (sym (ap (λ (l : Lock). l.locked) made ∙ unlocked))
+made_unlocked = (powered_of (holding (7 ∷ 9 ∷ []) false), (refl, λ e. never (sym e)))
 
 prefix_unlocks : (request_of locked (0 ∷ 1 ∷ 7 ∷ []) false).answer ≡ Granted → ⊥
 unfolding request_of presented password_in same stored holding
