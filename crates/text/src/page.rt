@@ -2,7 +2,7 @@
 // the other, as far as there is room. Two pieces are the one text of both, cut where the output ends,
 // so whoever wants whole lines sees to the room.
 //
-// Offers: `Page`, with `put`, `decimal`, `hex`, `number`, `hexed`, `ending`.
+// Offers: `Page`, with `put`, `hex`, `number`, `hexed`, `head`, `ending`.
 ghost use Rattle.std.specs.Prelude.{◌≡◌, ◌+◌, min};
 ghost use Rattle.text.specs.Lines.{number_text, hex_text, head_text, end_text};
 ghost use Rattle.text.specs.Pages.{Writes};
@@ -36,7 +36,7 @@ impl Page<'_> {
     }
 
     #[tactic(auto, using(crate::proofs::Digits::written))]
-    pub fn decimal(&mut self, n: u64)
+    fn decimal(&mut self, n: u64)
         ensures { Writes self.old self.new (decimal_of n) }
     {
         self.put(Buffer::new().format(n).as_bytes());
