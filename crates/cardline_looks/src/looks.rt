@@ -5,48 +5,54 @@ ghost use Rattle.std.specs.Prelude.{◌≡◌, length};
 ghost use Rattle.cardline_looks.specs.Lines.{line_room, roomy};
 ghost use Rattle.cardline_looks.specs.Looks.{link_text, flags_text, card_text, mode_text, memory_text, look_text, poked, map_looked, sizes_looked};
 ghost use Rattle.store.specs.Lent.{lent_of};
-ghost use Rattle.text.specs.Writing.{Put, Line};
+ghost use Rattle.text.specs.Pages.{Writes};
+ghost use Rattle.text.specs.Writing.{Line};
 
 use card_record::{Link, Mode};
 use cardline_script::{Looking, Sizes};
 use status::Errors;
-use text::lines::{ending, head, hexed, number, put, say};
+use text::lines::say;
+use text::page::Page;
 use text::parts::part;
 
-fn link_text(link: Link, out: &mut [u8], at: usize) -> usize
-    ensures { Put out.old out.new at result (link_text link) }
+fn link_text(link: Link, page: &mut Page)
+    ensures { Writes page.old page.new (link_text link) }
 {
     let state = link.state;
     let column = states::column_of(state);
-    let a = number(states::number(column) as u64, out, at);
-    let b = hexed(&link.address.to_be_bytes(), out, a);
-    hexed(&link.length.to_be_bytes(), out, b)
+    page.number(states::number(column) as u64);
+    page.hexed(&link.address.to_be_bytes());
+    page.hexed(&link.length.to_be_bytes());
 }
 
-fn flags_text(locked: bool, errors: Errors, out: &mut [u8], at: usize) -> usize
-    ensures { Put out.old out.new at result (flags_text locked errors) }
+fn flags_text(locked: bool, errors: Errors, page: &mut Page)
+    ensures { Writes page.old page.new (flags_text locked errors) }
 {
-    let a = number(u64::from(locked), out, at);
+    page.number(u64::from(locked));
     let bits = status::pending(errors);
-    hexed(&bits.to_be_bytes(), out, a)
+    page.hexed(&bits.to_be_bytes());
 }
 
 fn card_line(count: u64, link: Link, locked: bool, map: &[u8], out: &mut [u8]) -> usize
     ensures { Line (line_room 44 (length map.now)) out.old out.new result (card_text count link locked map.now) }
 {
-    let a = head(count, b"card", out);
-    let b = link_text(link, out, a);
-    let c = flags_text(locked, link.errors, out, b);
-    ending(map, out, c)
+    let mut page = Page { out, at: 0 };
+    page.head(count, b"card");
+    link_text(link, &mut page);
+    flags_text(locked, link.errors, &mut page);
+    page.ending(map);
+    page.at
 }
 
 fn mode_line(count: u64, mode: Mode, out: &mut [u8]) -> usize
     ensures { Line roomy out.old out.new result (mode_text count mode) }
 {
-    let a = head(count, b"spi", out);
-    let b = number(u64::from(mode.spi), out, a);
-    let c = number(u64::from(mode.checks), out, b);
-    put(b"\n", out, c)
+    let mut page = Page { out, at: 0 };
+    page.head(count, b"spi");
+    page.number(u64::from(mode.spi));
+    page.number(u64::from(mode.checks));
+    page.put(b"\n");
+    page.at
 }
 
 fn memory_line(count: u64, from: u32, n: u16, memory: &[u8], out: &mut [u8]) -> usize

@@ -4,6 +4,7 @@
 ghost use Rattle.std.specs.Prelude.{◌+◌, max, length};
 ghost use Rattle.cardline_looks.specs.Lines.{line_room};
 ghost use Rattle.cardline_records.specs.Calls.{shown_text, sent_text, beside_bytes, beside_text, refused_text, frame_text, good_text, taken_text, block_text, reply_text};
+ghost use Rattle.text.specs.Pages.{Writes};
 ghost use Rattle.text.specs.Writing.{Put, Line};
 
 use base::Refusal;
@@ -11,7 +12,8 @@ use card::Call;
 use card_blocks::Reply;
 use card_record::{Registers, Sent};
 use cardline_looks::lines::{refused, say_number};
-use text::lines::{ending, head, number, put, say};
+use text::lines::say;
+use text::page::Page;
 use text::parts::part;
 
 #[tactic(auto, unfolding(crate::specs::Calls::shown_text))]
@@ -37,26 +39,26 @@ fn sent_line(count: u64, registers: Registers, sent: Sent, out: &mut [u8]) -> us
 }
 
 // The end of a line that tells of bytes, if there are any, behind a word.
-fn beside(word: &[u8], bytes: &[u8], out: &mut [u8], at: usize) -> usize
-    ensures { Put out.old out.new at result (beside_text word.now bytes.now) }
+fn beside(word: &[u8], bytes: &[u8], page: &mut Page)
+    ensures { Writes page.old page.new (beside_text word.now bytes.now) }
 {
     if bytes.is_empty() {
-        return put(b"\n", out, at);
+        return page.put(b"\n");
     }
-    let a = put(b" ", out, at);
-    let b = put(word, out, a);
-    ending(bytes, out, b)
+    page.put(b" ");
+    page.put(word);
+    page.ending(bytes);
 }
 
 // The end of a line that tells of what a card sends beside its answer.
-fn sent_beside(word: &[u8], registers: Registers, sent: Sent, out: &mut [u8], at: usize) -> usize
-    ensures { Put out.old out.new at result (beside_text word.now (beside_bytes registers sent)) }
+fn sent_beside(word: &[u8], registers: Registers, sent: Sent, page: &mut Page)
+    ensures { Writes page.old page.new (beside_text word.now (beside_bytes registers sent)) }
 {
     let mut bytes = [0u8; 17];
     let written = card_record::write_sent(registers, sent, &mut bytes);
     match written {
-        Ok(n) => beside(word, part(&bytes, 0, n), out, at),
-        Err(_) => beside(word, b"", out, at),
+        Ok(n) => beside(word, part(&bytes, 0, n), page),
+        Err(_) => beside(word, b"", page),
     }
 }
 
@@ -71,9 +73,11 @@ fn refused_line(
 ) -> usize
     ensures { Line (line_room (8 + length word.now) 17) out.old out.new result (refused_text count refusal word.now (beside_bytes registers sent)) }
 {
-    let a = head(count, b"refused", out);
-    let b = number(base::number(refusal) as u64, out, a);
-    sent_beside(word, registers, sent, out, b)
+    let mut page = Page { out, at: 0 };
+    page.head(count, b"refused");
+    page.number(base::number(refusal) as u64);
+    sent_beside(word, registers, sent, &mut page);
+    page.at
 }
 
 fn frame_line(count: u64, registers: Registers, reply: Reply, out: &mut [u8]) -> usize
@@ -92,8 +96,10 @@ fn frame_line(count: u64, registers: Registers, reply: Reply, out: &mut [u8]) ->
 fn good_line(count: u64, registers: Registers, sent: Sent, out: &mut [u8]) -> usize
     ensures { Line (line_room 20 17) out.old out.new result (good_text count (beside_bytes registers sent)) }
 {
-    let a = head(count, b"taken", out);
-    sent_beside(b"response", registers, sent, out, a)
+    let mut page = Page { out, at: 0 };
+    page.head(count, b"taken");
+    sent_beside(b"response", registers, sent, &mut page);
+    page.at
 }
 
 fn taken_line(count: u64, registers: Registers, reply: Reply, out: &mut [u8]) -> usize

@@ -1,11 +1,13 @@
 // The text that programs print, written into a lent output. No call has a `requires`: where an output
 // is too short, `hex` and `decimal` are refused 6 and leave it as it was, and what lines are put
-// together of, in lines.rt, writes as much as there is room for. parts.rt has parts of bytes.
+// together of, in page.rt, and whole lines, in lines.rt, are written as far as there is room. parts.rt
+// has parts of bytes.
 //
-// Offers: `hex`, `decimal`; `lines`, `parts`.
+// Offers: `hex`, `decimal`; `page`, `lines`, `parts`.
 #![tactic(auto)]
 
 pub mod lines;
+pub mod page;
 pub mod parts;
 
 ghost use Rattle.std.specs.Prelude.{◌≡◌, ◌<◌, ◌≤◌, drop};
@@ -14,6 +16,7 @@ ghost use Rattle.text.specs.Text.{digit_of, hex_of, decimal_of};
 
 use base::{Refusal, lay};
 use itoa::Buffer;
+use page::Page;
 
 // The hex digit of a number below 16. (The library's `char::from_digit` gives small letters.)
 fn digit(d: u8) -> u8
@@ -32,7 +35,9 @@ pub fn hex(bytes: &[u8], out: &mut [u8]) -> Result<usize, Refusal>
     if out.len() / 2 < bytes.len() {
         return Err(Refusal::OutputShort);
     }
-    Ok(lines::hex(bytes, out, 0))
+    let mut page = Page { out, at: 0 };
+    page.hex(bytes);
+    Ok(page.at)
 }
 
 // The decimal digits of `n`, with no leading zeros.

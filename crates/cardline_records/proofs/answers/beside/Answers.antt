@@ -5,7 +5,7 @@ use mathlib.Core.Bool.{true, false}
 use lib.Dec.{eqb}
 use lib.ListN.{length}
 use Rattle.cardline_records.specs.Calls.{beside_text}
-use Rattle.text.proofs.Writing.{put_both}
+use Rattle.text.proofs.Pages.{writes_both}
 use Rattle.cardline_records.proofs.answers.beside.Goals as goal
 
 pub returns-then-is_empty : goal.returns-then-is_empty
@@ -18,4 +18,4 @@ pub returns : goal.returns
 unfolding beside_text
 returns c =
     let some : eqb (length c.args.bytes.now) 0 ≡ false = sym c.is_empty.ensures ∙ c.if-is_empty.false in
-    rw some (put_both (put_both c.put-a.ensures c.put-b.ensures) c.ending.ensures)
+    rw some (writes_both (writes_both c.put-2.ensures c.put-3.ensures) c.ending.ensures)

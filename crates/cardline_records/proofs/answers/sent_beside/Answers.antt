@@ -5,7 +5,7 @@ use borrow.Author.Rules.{rules}
 use lib.ListN.{replicate}
 use Rattle.cardline_records.proofs.Sending.{sent_beside_lem}
 use Rattle.cardline_records.specs.Calls.{beside_bytes, beside_text}
-use Rattle.text.proofs.Writing.{put_as}
+use Rattle.text.proofs.Pages.{writes_as}
 use Rattle.cardline_records.proofs.answers.sent_beside.Goals as goal
 
 pub returns-in-Ok : goal.returns-in-Ok
@@ -13,7 +13,7 @@ unfolding beside_bytes
 returns-in-Ok c =
     let d = c.write_sent-written in
     let a = c.args in
-    put_as
+    writes_as
     (ap (beside_text a.word.now)
     (c.part.ensures.part
     ∙ sent_beside_lem a.registers a.sent (replicate 17 0) d.new.out d.result d.ensures.answer c.in-Ok.n
