@@ -18,10 +18,7 @@ use wire::{Command, Fields};
 fn on_bus(index: u8) -> bool
     ensures { result ≡ among index bus_indices }
 {
-    match index {
-        0..=4 | 7 | 9..=10 | 13 | 15 => true,
-        _ => false,
-    }
+    matches!(index, 0..=4 | 7 | 9..=10 | 13 | 15)
 }
 
 // What a frame asks of a bus of so many cards: 13, 1, 2, 3, 14, and else a command.
@@ -83,8 +80,8 @@ fn hear(heard: Heard, registers: Registers, sent: Sent) -> Heard
 
 // What a command finds at a card, which is only looked at: one in SPI ignores it, since its select
 // line is high.
-pub fn decide(card: Card, wins: bool, index: u8, argument: u32) -> Decided
-    ensures { result ≡ decided_at card wins index argument }
+pub fn decide(card: Card, wins: bool, command: Command) -> Decided
+    ensures { result ≡ decided_at card wins command.index command.argument }
 {
     if card.mode.spi {
         return Decided {
@@ -93,7 +90,7 @@ pub fn decide(card: Card, wins: bool, index: u8, argument: u32) -> Decided
         };
     }
     let link = card.link;
-    command::decide(link, met_by(card, wins), Command { index, argument })
+    command::decide(link, met_by(card, wins), command)
 }
 
 // One card's turn, as it was decided.
@@ -101,20 +98,14 @@ pub fn turn(
     heard: Heard,
     card: Card,
     wins: bool,
-    index: u8,
-    argument: u32,
+    command: Command,
     decided: Decided,
 ) -> Turned
-    requires { (index ≤ 63) × (decided ≡ decided_at card wins index argument) }
-    ensures { result ≡ turn_of heard card wins index argument }
+    requires { (command.index ≤ 63) × (decided ≡ decided_at card wins command.index command.argument) }
+    ensures { result ≡ turn_of heard card wins command.index command.argument }
 {
     let link = card.link;
-    let given = command::follow(
-        link,
-        met_by(card, wins),
-        Command { index, argument },
-        decided,
-    );
+    let given = command::follow(link, met_by(card, wins), command, decided);
     let next = given.link;
     let sent = given.sent;
     let registers = card.registers;

@@ -15,6 +15,7 @@ use base::Refusal;
 use card_record::Card;
 use contest::{contends, holds, lowest};
 use hearing::{asked_of, decide, line_by, quiet, shown_by, turn};
+use wire::Command;
 use std::marker::Model;
 
 // The cards in the places from 0 on; a count over 30 reads as 30.
@@ -195,6 +196,7 @@ pub fn frame(bus: Bus, frame: &[u8]) -> Framed
         Asked::Refused(refusal) => return refuse(bus, refusal),
         Asked::Damaged => return refuse(damage(bus), Refusal::FrameCrc),
         Asked::Command { index, argument } => {
+            let command = Command { index, argument };
             let low = lowest(bus, index);
             let mut next = bus;
             let mut heard = quiet();
@@ -207,10 +209,10 @@ pub fn frame(bus: Bus, frame: &[u8]) -> Framed
                     }
                     won = true;
                 }
-                let decided = decide(seen, won, index, argument);
+                let decided = decide(seen, won, command);
                 if !command::leaves_alone(decided) {
                     let card = next.cards[i];
-                    let turned = turn(heard, card, won, index, argument, decided);
+                    let turned = turn(heard, card, won, command, decided);
                     let after = turned.card;
                     next.cards[i] = after;
                     heard = turned.heard;

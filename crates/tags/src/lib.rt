@@ -51,8 +51,7 @@ pub fn tagged(tags: Tags, sector: u32) -> bool
 {
     let range = tags.range;
     match range {
-        Range::Nothing => false,
-        Range::Start(_, _) => false,
+        Range::Nothing | Range::Start(_, _) => false,
         Range::Full(kind, first, last) => match kind {
             Kind::Sectors => within(sector, first, last),
             Kind::Groups => within(sector / 8, first, last),
@@ -78,24 +77,14 @@ pub fn no_tags() -> Tags
 pub fn any(tags: Tags) -> bool
     ensures answer { result ≡ any_of tags }
 {
-    let range = tags.range;
-    match range {
-        Range::Nothing => false,
-        Range::Start(_, _) => true,
-        Range::Full(_, _, _) => true,
-    }
+    !matches!(tags.range, Range::Nothing)
 }
 
 // Whether a start and an end are tagged, as CMD38 needs.
 pub fn complete(tags: Tags) -> bool
     ensures answer { result ≡ is_complete tags }
 {
-    let range = tags.range;
-    match range {
-        Range::Nothing => false,
-        Range::Start(_, _) => false,
-        Range::Full(_, _, _) => true,
-    }
+    matches!(tags.range, Range::Full(_, _, _))
 }
 
 // The number of the sector or erase group that an address lies in.
