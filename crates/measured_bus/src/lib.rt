@@ -6,6 +6,7 @@
 #![tactic(auto)]
 
 ghost use Rattle.std.specs.Prelude.{◌≡◌, ◌≤◌};
+ghost use Rattle.wire.specs.Frames.{command_frame};
 ghost use Rattle.measured_bus.specs.Rounds.{cid_at, ready_card, bus_of, cmd2, cmd3, heard, after_rounds, answered_in, played_on, addresses_of};
 
 use base::Refusal;
@@ -66,22 +67,26 @@ fn bus_of(cids: &[u8; 480], count: usize) -> Bus
     bus
 }
 
+fn command(index: u8, argument: u32) -> [u8; 6]
+    requires { index ≤ 63 }
+    ensures { result ≡ command_frame index argument }
+{
+    let mut frame = [0u8; 6];
+    let _ = wire::write_command(index, argument, &mut frame);
+    frame
+}
+
 fn cmd2() -> [u8; 6]
     ensures { result ≡ cmd2 }
 {
-    let mut frame = [0u8; 6];
-    let _ = wire::write_command(2, 0, &mut frame);
-    frame
+    command(2, 0)
 }
 
 // CMD3 with the number of the round as the address.
 fn cmd3(round: usize) -> [u8; 6]
     ensures { result ≡ cmd3 round }
 {
-    let argument = (round % 65536) as u32 * 65536;
-    let mut frame = [0u8; 6];
-    let _ = wire::write_command(3, argument, &mut frame);
-    frame
+    command(3, (round % 65536) as u32 * 65536)
 }
 
 // How many answers the line shows: one or none.
