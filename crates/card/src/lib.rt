@@ -13,7 +13,7 @@ ghost use Rattle.std.specs.Prelude.{◌≡◌, length};
 ghost use Rattle.card.specs.Step.{step_of, lent_after, output_of};
 ghost use Rattle.store.specs.Lent.{lent_of, seen};
 
-use card_blocks::{Stepped, block_in, block_out, done};
+use card_blocks::{Lending, Stepped, block_in, block_out, done};
 use card_record::{Card, Link, Mode, Sent};
 pub use frames::{frame, heard};
 
@@ -51,7 +51,7 @@ pub fn step(
 {
     match call {
         Call::Frame { wins, selected } => frame(card, wins, selected, input, memory, map),
-        Call::BlockIn => block_in(card, input, memory, map),
+        Call::BlockIn => block_in(card, input, &mut Lending { memory, map }),
         Call::BlockOut => block_out(card, memory, map, out),
         Call::WorkDone => done(card_record::work_done(card)),
         Call::PowerOn => done(card_record::power_on(card)),
