@@ -2,8 +2,7 @@
 // taken in. A block out changes the link alone, a block in the lock too. The mode is told with the link,
 // and nothing else.
 ghost use Rattle.std.specs.Prelude.{◌++◌, ◌≡◌, length};
-ghost use Rattle.card_blocks.specs.BlockIn.{block_judged, state_judged, stored_by};
-ghost use Rattle.card_blocks.specs.Framing.{unstarted};
+ghost use Rattle.card_blocks.specs.BlockIn.{block_judged};
 ghost use Rattle.card_blocks.specs.BlockOut.{out_judged};
 ghost use Rattle.card.specs.Step.{lent_after, output_of};
 ghost use Rattle.card.specs.declared.Call.TheVariants.{BlockIn, BlockOut};
@@ -13,16 +12,8 @@ ghost use Rattle.store.specs.Lent.{lent_of, seen};
 ghost use Rattle.firmware.specs.Answers.{outcome_number, numbers_after, fronted, wrote_of};
 
 use crate::answers::{leaves_record, outcome_number, send_byte, wrote};
-use card_blocks::{Lending, Stepped};
-use card_record::Card;
+use card_blocks::Lending;
 use crossing::{card_of, groups_of, tell_link, tell_link_and_lock};
-
-fn store_in(card: Card, block: &[u8], memory: &mut [u8], map: &mut [u8]) -> Stepped
-    ensures answer { result ≡ (state_judged card card.link.state block.now map.old).stepped }
-    ensures lent { lent_of memory.new map.new ≡ stored_by (unstarted card.mode.spi block.now) (state_judged card card.link.state block.now map.old).storing (lent_of memory.old map.old) }
-{
-    card_blocks::taken_in(card, block, &mut Lending { memory, map })
-}
 
 // A block in: 12, 15, 16, 17, 18, 19 or 20. Only this call may change the password. The data response
 // that follows it in SPI goes to `response`, and how many bytes that is to `sent`.
@@ -69,7 +60,7 @@ pub extern "C" fn mmc_parts_block_in(
         Err(refusal) => return base::number(refusal),
     }
     let card = card_of(*numbers, *cid, *csd, *password);
-    let stepped = store_in(card, block, memory, map);
+    let stepped = card_blocks::taken_in(card, block, &mut Lending { memory, map });
     // Each part has a name, since fields read through `stepped` where they are told cost 222 bytes of code.
     let next = stepped.card;
     let reply = stepped.reply;
