@@ -30,6 +30,13 @@ pub struct Lending<'a> {
 }
 
 impl Lending<'_> {
+    // The memory, to read.
+    pub fn memory(&self) -> &[u8]
+        ensures { result.now ≡ self.now.memory.now }
+    {
+        self.memory
+    }
+
     // The map, to read.
     pub fn map(&self) -> &[u8]
         ensures { result.now ≡ self.now.map.now }
