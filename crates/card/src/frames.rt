@@ -76,9 +76,7 @@ fn commanded(
 {
     let whole = card_record::csd_protects(card.registers.csd);
     let met = command::met_by(card, wins);
-    let given = heard(
-        card.mode, selected, card.link, met, whole, command, lent,
-    );
+    let given = heard(card.mode, selected, card.link, met, whole, command, lent);
     Stepped {
         card: Card {
             link: given.link,
@@ -130,13 +128,7 @@ fn framed(
             },
         ) => {
             if spi::crc_passes(card.mode, index, crc_right) {
-                commanded(
-                    card,
-                    wins,
-                    selected,
-                    Command { index, argument },
-                    lent,
-                )
+                commanded(card, wins, selected, Command { index, argument }, lent)
             } else {
                 damaged(card, selected)
             }
@@ -147,13 +139,7 @@ fn framed(
 
 // A frame at a card: judged, and then carried out on what is lent. A card that is alone on its line wins
 // CMD2; one that shares it is told whether its CID was heard to the last bit.
-pub fn frame(
-    card: Card,
-    wins: bool,
-    selected: bool,
-    frame: &[u8],
-    lent: &mut Lending,
-) -> Stepped
+pub fn frame(card: Card, wins: bool, selected: bool, frame: &[u8], lent: &mut Lending) -> Stepped
     ensures answer { result ≡ frame_stepped card wins selected frame.now (seen (held lent.old)) }
     ensures lent { Leaves lent.old lent.new (changed_by card (frame_judged card wins selected frame.now (seen (held lent.old))).change (held lent.old)) }
 {

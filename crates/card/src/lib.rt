@@ -38,13 +38,7 @@ pub enum Call {
 }
 
 // One call, whichever it is. A frame and a block in are in `input`; a block out goes to `out`.
-pub fn step(
-    card: Card,
-    call: Call,
-    input: &[u8],
-    lent: &mut Lending,
-    out: &mut [u8],
-) -> Stepped
+pub fn step(card: Card, call: Call, input: &[u8], lent: &mut Lending, out: &mut [u8]) -> Stepped
     ensures answer { result ≡ step_of card call input.now (seen (held lent.old)) (length out.old) }
     ensures lent { Leaves lent.old lent.new (lent_after card call input.now (held lent.old)) }
     ensures output { out.new ≡ output_of card call (held lent.old) out.old }

@@ -2,7 +2,7 @@
 // answer that every call of a card has. Each judges by value, from the record, the input, the map and
 // the lengths of the rest, and then changes what is lent. No call has a `requires`.
 //
-// Offers: `Reply`, `Stepped`, `refuse`, `done`; `block_in`, `block_out`; `taken_in` and
+// Offers: `Lending`; `Reply`, `Stepped`, `refuse`, `done`; `block_in`, `block_out`; `taken_in` and
 // `given_out`, what these two do once what is lent was found right. The other types are what judging
 // gives: the definitions name them.
 #![tactic(auto)]

@@ -10,11 +10,11 @@ ghost use Rattle.cardline_script.specs.declared.Going.TheVariants.{Call, Look};
 ghost use Rattle.card_blocks.specs.Lending.{held, Leaves};
 ghost use Rattle.text.specs.Writing.{Line};
 
-use card_blocks::Lending;
 use crate::calls::called;
 use crate::make::make;
 use crate::results::{counted, ends, goes_on, left_alone, with_card, with_lent};
 use crate::{Progress, Said};
+use card_blocks::Lending;
 use cardline_looks::{look_line, set_map, sizes_looked, wire_line};
 use cardline_script::{Asked, Calling, Going, Halt, Looking, Stop, used};
 use playing::Then;

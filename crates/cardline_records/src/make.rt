@@ -8,10 +8,10 @@ ghost use Rattle.store.specs.Lent.{seen_of};
 ghost use Rattle.card_blocks.specs.Lending.{held, Leaves};
 ghost use Rattle.text.specs.Writing.{Line};
 
-use card_blocks::Lending;
 use crate::results::{ends, goes_on};
 use crate::{Progress, Said};
 use base::{Refusal, copy, fill};
+use card_blocks::Lending;
 use card_record::{Card, Made};
 use cardline_script::numbers::four;
 use cardline_script::{Making, Sizes};

@@ -5,7 +5,7 @@ use mathlib.Core.List.{List}
 use Prim.Native.Nat.{ℕ}
 use Rattle.card_record.specs.declared.Card.{Card}
 use Rattle.store.specs.Lent.{Lent, seen, lending_of, once_lent}
-use Rattle.card_blocks.specs.Lending.{held, Leaves}
+use Rattle.card_blocks.specs.Lending.{held}
 use Rattle.card_blocks.specs.BlockIn.{unread, state_judged, block_judged, stored_by}
 use Rattle.card_blocks.specs.Framing.{unstarted}
 use Rattle.card_blocks.specs.declared.BlockJudged.{BlockJudged}
