@@ -4,11 +4,12 @@ ghost use Rattle.card.specs.Frame.{framed, commanded, frame_judged, skip_told, f
 ghost use Rattle.base.specs.Refusals.{by};
 ghost use Rattle.command.specs.Command.{met_by};
 ghost use Rattle.spi.specs.Hearing.{heard_of, damaged_of};
-ghost use Rattle.store.specs.Lent.{lent_of, seen};
+ghost use Rattle.card_blocks.specs.Lending.{held, Leaves};
+ghost use Rattle.store.specs.Lent.{seen};
 
 use crate::Answered;
 use base::Refusal;
-use card_blocks::{Reply, Stepped, refuse};
+use card_blocks::{Lending, Reply, Stepped, refuse};
 use card_record::{Card, Link, Mode};
 use command::{Change, Met};
 use status::ErrorBit;
@@ -37,21 +38,23 @@ pub fn heard(
     met: Met,
     whole: bool,
     command: Command,
-    memory: &mut [u8],
-    map: &mut [u8],
+    lent: &mut Lending,
 ) -> Answered
-    ensures answer { result ≡ command_heard mode selected link met whole command.index command.argument (seen (lent_of memory.old map.old)) }
-    ensures lent { lent_of memory.new map.new ≡ changed link.tags whole (heard_of mode selected link met command.index command.argument).change (lent_of memory.old map.old) }
+    ensures answer { result ≡ command_heard mode selected link met whole command.index command.argument (seen (held lent.old)) }
+    ensures lent { Leaves lent.old lent.new (changed link.tags whole (heard_of mode selected link met command.index command.argument).change (held lent.old)) }
 {
     let given = spi::hear(mode, selected, link, met, command);
     let next = given.link;
     let told = match given.change {
         Change::Nothing => next,
         Change::Protect { group, on } => {
-            store::protect(map, group, on);
+            store::protect(lent.map, group, on);
             next
         }
-        Change::Erase => tell_spared(next, store::erase(memory, map, link.tags, whole)),
+        Change::Erase => {
+            let map = &mut *lent.map;
+            tell_spared(next, store::erase(lent.memory, map, link.tags, whole))
+        }
     };
     Answered {
         mode: given.mode,
@@ -66,17 +69,14 @@ fn commanded(
     wins: bool,
     selected: bool,
     command: Command,
-    memory: &mut [u8],
-    map: &mut [u8],
+    lent: &mut Lending,
 ) -> Stepped
-    ensures answer { result ≡ frame_told card (seen (lent_of memory.old map.old)) (commanded card (Ok None) (heard_of card.mode selected card.link (met_by card wins) command.index command.argument)) }
-    ensures lent { lent_of memory.new map.new ≡ changed_by card (heard_of card.mode selected card.link (met_by card wins) command.index command.argument).change (lent_of memory.old map.old) }
+    ensures answer { result ≡ frame_told card (seen (held lent.old)) (commanded card (Ok None) (heard_of card.mode selected card.link (met_by card wins) command.index command.argument)) }
+    ensures lent { Leaves lent.old lent.new (changed_by card (heard_of card.mode selected card.link (met_by card wins) command.index command.argument).change (held lent.old)) }
 {
     let whole = card_record::csd_protects(card.registers.csd);
     let met = command::met_by(card, wins);
-    let given = heard(
-        card.mode, selected, card.link, met, whole, command, memory, map,
-    );
+    let given = heard(card.mode, selected, card.link, met, whole, command, lent);
     Stepped {
         card: Card {
             link: given.link,
@@ -114,11 +114,10 @@ fn framed(
     wins: bool,
     selected: bool,
     framing: Result<Fields, Refusal>,
-    memory: &mut [u8],
-    map: &mut [u8],
+    lent: &mut Lending,
 ) -> Stepped
-    ensures answer { result ≡ frame_told card (seen (lent_of memory.old map.old)) (framed card wins selected framing) }
-    ensures lent { lent_of memory.new map.new ≡ changed_by card (framed card wins selected framing).change (lent_of memory.old map.old) }
+    ensures answer { result ≡ frame_told card (seen (held lent.old)) (framed card wins selected framing) }
+    ensures lent { Leaves lent.old lent.new (changed_by card (framed card wins selected framing).change (held lent.old)) }
 {
     match framing {
         Ok(
@@ -129,14 +128,7 @@ fn framed(
             },
         ) => {
             if spi::crc_passes(card.mode, index, crc_right) {
-                commanded(
-                    card,
-                    wins,
-                    selected,
-                    Command { index, argument },
-                    memory,
-                    map,
-                )
+                commanded(card, wins, selected, Command { index, argument }, lent)
             } else {
                 damaged(card, selected)
             }
@@ -147,21 +139,14 @@ fn framed(
 
 // A frame at a card: judged, and then carried out on what is lent. A card that is alone on its line wins
 // CMD2; one that shares it is told whether its CID was heard to the last bit.
-pub fn frame(
-    card: Card,
-    wins: bool,
-    selected: bool,
-    frame: &[u8],
-    memory: &mut [u8],
-    map: &mut [u8],
-) -> Stepped
-    ensures answer { result ≡ frame_stepped card wins selected frame.now (seen (lent_of memory.old map.old)) }
-    ensures lent { lent_of memory.new map.new ≡ changed_by card (frame_judged card wins selected frame.now (seen (lent_of memory.old map.old))).change (lent_of memory.old map.old) }
+pub fn frame(card: Card, wins: bool, selected: bool, frame: &[u8], lent: &mut Lending) -> Stepped
+    ensures answer { result ≡ frame_stepped card wins selected frame.now (seen (held lent.old)) }
+    ensures lent { Leaves lent.old lent.new (changed_by card (frame_judged card wins selected frame.now (seen (held lent.old))).change (held lent.old)) }
 {
-    match store::lent_check(memory.len(), map, card.registers.groups as usize) {
+    match lent.check(card.registers.groups as usize) {
         Ok(()) => {
             let framing = wire::unframe(frame);
-            framed(card, wins, selected, framing, memory, map)
+            framed(card, wins, selected, framing, lent)
         }
         Err(refusal) => refuse(card, refusal),
     }

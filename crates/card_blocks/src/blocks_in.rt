@@ -3,11 +3,12 @@
 ghost use Rattle.std.specs.Prelude.{◌≡◌, ◌≤◌, length, take};
 ghost use Rattle.card_blocks.specs.BlockIn.{awaited_length, after_refused, after_stored, with_fault, block_refused, block_good, write_judged, request_judged, carried_out, checked_judged, wrong_length, awaited_judged, unread, state_judged, block_judged, stored_by};
 ghost use Rattle.card_blocks.specs.Framing.{unstarted};
-ghost use Rattle.store.specs.Lent.{lent_of, seen};
+ghost use Rattle.store.specs.Lent.{seen};
+ghost use Rattle.card_blocks.specs.Lending.{held, Leaves};
 
 use crate::framing::{beside, crc_right, reply, started, unstarted};
 use crate::replies::refuse;
-use crate::{BlockJudged, Stepped, Storing};
+use crate::{BlockJudged, Lending, Stepped, Storing};
 use base::{Refusal, SECTOR};
 use card_record::{Card, Link};
 use lock::Answer;
@@ -224,45 +225,45 @@ fn state_judged(card: Card, state: State, block: &[u8], map: &[u8]) -> BlockJudg
 }
 
 // What was judged carried out on the memory and the map.
-fn store(storing: Storing, block: &[u8], memory: &mut [u8], map: &mut [u8])
-    ensures { lent_of memory.new map.new ≡ stored_by block.now storing (lent_of memory.old map.old) }
+fn store(storing: Storing, block: &[u8], lent: &mut Lending)
+    ensures { Leaves lent.old lent.new (stored_by block.now storing (held lent.old)) }
 {
     match storing {
         Storing::Nothing => {}
         Storing::Sector(sector) => {
             if SECTOR_LENGTH <= block.len() {
                 let bytes = kept(block);
-                store::write_sector(memory, sector, &bytes);
+                store::write_sector(lent.memory, sector, &bytes);
             }
         }
         Storing::All => {
-            store::fill_all(memory);
-            store::clear_map(map);
+            store::fill_all(lent.memory);
+            store::clear_map(lent.map);
         }
     }
 }
 
 // A block in at a card that is lent what is its own: judged, memory's contents unread, then stored.
-pub fn taken_in(card: Card, block: &[u8], memory: &mut [u8], map: &mut [u8]) -> Stepped
-    ensures answer { result ≡ (state_judged card card.link.state block.now map.old).stepped }
-    ensures lent { lent_of memory.new map.new ≡ stored_by (unstarted card.mode.spi block.now) (state_judged card card.link.state block.now map.old).storing (lent_of memory.old map.old) }
+pub fn taken_in(card: Card, block: &[u8], lent: &mut Lending) -> Stepped
+    ensures answer { result ≡ (state_judged card card.link.state block.now (held lent.old).map).stepped }
+    ensures lent { Leaves lent.old lent.new (stored_by (unstarted card.mode.spi block.now) (state_judged card card.link.state block.now (held lent.old).map).storing (held lent.old)) }
 {
     let link = card.link;
     let state = link.state;
-    let judged = state_judged(card, state, block, map);
+    let judged = state_judged(card, state, block, lent.map());
     let storing = judged.storing;
     let given = unstarted(card.mode.spi, block);
-    store(storing, given, memory, map);
+    store(storing, given, lent);
     judged.stepped
 }
 
 // A block in: 12 before all else.
-pub fn block_in(card: Card, block: &[u8], memory: &mut [u8], map: &mut [u8]) -> Stepped
-    ensures answer { result ≡ (block_judged card block.now (seen (lent_of memory.old map.old))).stepped }
-    ensures lent { lent_of memory.new map.new ≡ stored_by (unstarted card.mode.spi block.now) (block_judged card block.now (seen (lent_of memory.old map.old))).storing (lent_of memory.old map.old) }
+pub fn block_in(card: Card, block: &[u8], lent: &mut Lending) -> Stepped
+    ensures answer { result ≡ (block_judged card block.now (seen (held lent.old))).stepped }
+    ensures lent { Leaves lent.old lent.new (stored_by (unstarted card.mode.spi block.now) (block_judged card block.now (seen (held lent.old))).storing (held lent.old)) }
 {
-    match store::lent_check(memory.len(), map, card.registers.groups as usize) {
-        Ok(()) => taken_in(card, block, memory, map),
+    match lent.check(card.registers.groups as usize) {
+        Ok(()) => taken_in(card, block, lent),
         Err(refusal) => refuse(card, refusal),
     }
 }

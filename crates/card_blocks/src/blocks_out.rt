@@ -196,7 +196,7 @@ fn send(card: Card, sending: Sending, memory: &[u8], map: &[u8], out: &mut [u8])
     }
 }
 
-// A block out at a card that is lent what is its own: judged, and then sent.
+// A block out at a card that is lent what is its own: judged, and then sent. Memory and map come apart, only to be read, as `mmc_parts_block_out` is lent them.
 pub fn given_out(card: Card, memory: &[u8], map: &[u8], out: &mut [u8]) -> Stepped
     ensures answer { result ≡ (state_sends card card.link.state (length out.old)).stepped }
     ensures output { out.new ≡ sent_out card (lent_of memory.now map.now) (state_sends card card.link.state (length out.old)).sending out.old }

@@ -4,26 +4,43 @@
 ghost use Rattle.std.specs.Prelude.{◌≡◌, ◌<◌, max, length};
 ghost use Rattle.cardline_looks.specs.Lines.{line_room, roomy};
 ghost use Rattle.cardline_records.specs.Calls.{step_lent, buffers_lent, output_lent, call_text, called_by, input_of, room_of};
-ghost use Rattle.cardline_records.specs.Buffers.{held, Leaves};
+ghost use Rattle.card.specs.Step.{step_of, lent_after, output_of};
+ghost use Rattle.card_blocks.specs.Lending.{held, Leaves};
+ghost use Rattle.store.specs.Lent.{lent_of, seen};
 ghost use Rattle.text.specs.Writing.{Line};
 
-use crate::Buffers;
 use crate::answers::reply_line;
 use base::fill;
 use card::Call;
-use card_blocks::Stepped;
+use card_blocks::{Lending, Stepped};
 use card_record::Card;
 use cardline_looks::space;
 use cardline_script::{Calling, Sizes};
 use text::parts::part;
 
-// A call of the card, through the socket, lent so much of each buffer.
+// A call of the card, through the socket. Memory and map come apart: of a part cut from a buffer and then lent in a struct, the check does not know what it holds afterwards.
+fn step(
+    card: Card,
+    call: Call,
+    input: &[u8],
+    memory: &mut [u8],
+    map: &mut [u8],
+    output: &mut [u8],
+) -> Stepped
+    ensures answer { result ≡ step_of card call input.now (seen (lent_of memory.old map.old)) (length output.old) }
+    ensures lent { lent_of memory.new map.new ≡ lent_after card call input.now (lent_of memory.old map.old) }
+    ensures output { output.new ≡ output_of card call (lent_of memory.old map.old) output.old }
+{
+    socket::step_in_place(card, call, input, &mut Lending { memory, map }, output)
+}
+
+// The same, lent so much of each buffer.
 fn lent_step(
     card: Card,
     lent: Sizes,
     call: Call,
     input: &[u8],
-    buffers: &mut Buffers,
+    buffers: &mut Lending,
     output: &mut [u8],
 ) -> Stepped
     ensures answer { result ≡ step_lent card lent call input.now (held buffers.old) (length output.old) }
@@ -33,7 +50,7 @@ fn lent_step(
     let k = (lent.memory as usize).min(buffers.memory.len());
     let j = (lent.map as usize).min(buffers.map.len());
     let (memory, map) = (&mut buffers.memory[..k], &mut buffers.map[..j]);
-    socket::step_in_place(card, call, input, memory, map, output)
+    step(card, call, input, memory, map, output)
 }
 
 // What a call leaves: the next record, and the bytes of its line.
@@ -50,7 +67,7 @@ fn call_into(
     lent: Sizes,
     call: Call,
     input: &[u8],
-    buffers: &mut Buffers,
+    buffers: &mut Lending,
     output: &mut [u8],
     out: &mut [u8],
 ) -> Left
@@ -108,7 +125,7 @@ pub fn called(
     lent: Sizes,
     calling: Calling,
     script: &[u8],
-    buffers: &mut Buffers,
+    buffers: &mut Lending,
     out: &mut [u8],
 ) -> Left
     ensures record { result.card ≡ (step_lent card lent (called_by calling) (input_of calling script.now) (held buffers.old) (room_of calling)).card }

@@ -7,13 +7,14 @@ ghost use Rattle.cardline_records.specs.Record.{stop_text, going_text, going_buf
 ghost use Rattle.cardline_records.specs.Progress.{gone_on};
 ghost use Rattle.cardline_script.specs.Whole.{used_going};
 ghost use Rattle.cardline_script.specs.declared.Going.TheVariants.{Call, Look};
-ghost use Rattle.cardline_records.specs.Buffers.{held, Leaves};
+ghost use Rattle.card_blocks.specs.Lending.{held, Leaves};
 ghost use Rattle.text.specs.Writing.{Line};
 
 use crate::calls::called;
 use crate::make::make;
 use crate::results::{counted, ends, goes_on, left_alone, with_card, with_lent};
-use crate::{Buffers, Progress, Said};
+use crate::{Progress, Said};
+use card_blocks::Lending;
 use cardline_looks::{look_line, set_map, sizes_looked, wire_line};
 use cardline_script::{Asked, Calling, Going, Halt, Looking, Stop, used};
 use playing::Then;
@@ -37,7 +38,7 @@ fn call_on(
     calling: Calling,
     used: usize,
     script: &[u8],
-    buffers: &mut Buffers,
+    buffers: &mut Lending,
     out: &mut [u8],
 ) -> Said
     ensures answer { result ≡ gone_on (going_progress progress (Call calling) script.now (held buffers.old)) used result.wrote }
@@ -62,7 +63,7 @@ fn look_on(
     looking: Looking,
     used: usize,
     script: &[u8],
-    buffers: &mut Buffers,
+    buffers: &mut Lending,
     out: &mut [u8],
 ) -> Said
     ensures answer { result ≡ gone_on (going_progress progress (Look looking) script.now (held buffers.old)) used result.wrote }
@@ -91,7 +92,7 @@ fn carry(
     progress: Progress,
     going: Going,
     script: &[u8],
-    buffers: &mut Buffers,
+    buffers: &mut Lending,
     out: &mut [u8],
 ) -> Said
     ensures answer { result ≡ gone_on (going_progress progress going script.now (held buffers.old)) (used_going going) result.wrote }
@@ -114,7 +115,7 @@ pub fn obey(
     progress: Progress,
     asked: Result<Asked, Halt>,
     script: &[u8],
-    buffers: &mut Buffers,
+    buffers: &mut Lending,
     out: &mut [u8],
 ) -> Said
     ensures answer { result ≡ asked_said progress asked script.now (held buffers.old) result.wrote }

@@ -23,6 +23,7 @@ ghost use Rattle.cardline_records.specs.Transcript.{cut_text};
 ghost use Rattle.store.specs.Lent.{lent_of};
 ghost use Rattle.text.specs.Writing.{Put};
 
+use card_blocks::Lending;
 use card_record::Card;
 use cardline_looks::ROOMY;
 use cardline_script::Sizes;
@@ -30,13 +31,6 @@ use carry::obey;
 use playing::Then;
 use results::left_alone;
 use text::lines::plain;
-
-// The two buffers of a script, of which a card's memory and map are the first bytes.
-#[derive(Drop)]
-struct Buffers<'a> {
-    memory: &'a mut [u8],
-    map: &'a mut [u8],
-}
 
 // What is kept from record to record: the card, if one was made; the sizes of its own memory and
 // map, and of what its calls are lent; how many records were carried out since the make.
@@ -84,7 +78,7 @@ pub fn carry_out(
         return left_alone(progress, Then::NoRoom);
     }
     let asked = cardline_script::read(progress.made, script);
-    obey(progress, asked, script, &mut Buffers { memory, map }, out)
+    obey(progress, asked, script, &mut Lending { memory, map }, out)
 }
 
 // The line at the end of the input, where so many bytes are left over of it: `cut`, or none.

@@ -5,12 +5,13 @@ ghost use Rattle.std.specs.Prelude.{◌≡◌, length};
 ghost use Rattle.cardline_looks.specs.Lines.{roomy};
 ghost use Rattle.cardline_records.specs.Makes.{memory_filled, buffers_made, register_at, made_from, card_made, made_progress, make_text, make_said};
 ghost use Rattle.store.specs.Lent.{seen_of};
-ghost use Rattle.cardline_records.specs.Buffers.{held, Leaves};
+ghost use Rattle.card_blocks.specs.Lending.{held, Leaves};
 ghost use Rattle.text.specs.Writing.{Line};
 
 use crate::results::{ends, goes_on};
-use crate::{Buffers, Progress, Said};
+use crate::{Progress, Said};
 use base::{Refusal, copy, fill};
+use card_blocks::Lending;
 use card_record::{Card, Made};
 use cardline_script::numbers::four;
 use cardline_script::{Making, Sizes};
@@ -49,7 +50,7 @@ fn made_of(making: Making, script: &[u8], memory: &[u8], map: &[u8]) -> Made
 
 // The memory and the map filled, and the card made that is lent them.
 #[tactic(auto, unfolding(crate::specs::Makes::card_made))]
-fn make_card(making: Making, script: &[u8], buffers: &mut Buffers) -> Made
+fn make_card(making: Making, script: &[u8], buffers: &mut Lending) -> Made
     ensures answer { result ≡ card_made making script.now (held buffers.old) }
     ensures lent { Leaves buffers.old buffers.new (buffers_made making script.now (held buffers.old)) }
 {
@@ -65,7 +66,7 @@ pub fn make(
     progress: Progress,
     making: Making,
     script: &[u8],
-    buffers: &mut Buffers,
+    buffers: &mut Lending,
     out: &mut [u8],
 ) -> Said
     ensures answer { result ≡ make_said progress making (card_made making script.now (held buffers.old)).card (card_made making script.now (held buffers.old)).making result.wrote }

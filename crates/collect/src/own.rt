@@ -3,6 +3,7 @@
 // Offers: `made`, `exchanged`, `command`.
 use crate::say;
 use card::Call;
+use card_blocks::Lending;
 use card_record::Card;
 
 // A unit whose memory of 8,192 bytes is erased and that has no password.
@@ -33,7 +34,8 @@ pub fn exchanged(rt: &impl Print, before: Card) -> Card {
 }
 
 fn called(card: Card, call: Call, input: &[u8], memory: &mut [u8], out: &mut [u8]) -> Card {
-    card::step(card, call, input, memory, &mut [0u8; 1], out).card
+    let map = &mut [0u8; 1];
+    card::step(card, call, input, &mut Lending { memory, map }, out).card
 }
 
 pub fn command(index: u8, argument: u32) -> [u8; 6] {

@@ -13,6 +13,7 @@ ghost use Rattle.store.specs.Lent.{lent_of, seen};
 ghost use Rattle.firmware.specs.Answers.{numbers_after, fronted, wrote_of};
 
 use crate::answers::{leaves_record, number_told, send_byte, wrote};
+use card_blocks::Lending;
 use crossing::{card_of, groups_of, tell_link, tell_link_and_lock};
 
 // A block in: 12, 15, 16, 17, 18, 19 or 20. Only this call may change the password. The data response
@@ -60,7 +61,7 @@ pub extern "C" fn mmc_parts_block_in(
         Err(refusal) => return base::number(refusal),
     }
     let card = card_of(*numbers, *cid, *csd, *password);
-    let stepped = card_blocks::taken_in(card, block, memory, map);
+    let stepped = card_blocks::taken_in(card, block, &mut Lending { memory, map });
     // Each part has a name, since fields read through `stepped` where they are told cost 222 bytes of code.
     let next = stepped.card;
     let reply = stepped.reply;

@@ -15,6 +15,7 @@ ghost use Rattle.firmware.specs.Answers.{met_at, byte_sent, frame_numbers, won_b
 
 use crate::answers::send_byte;
 use base::Refusal;
+use card_blocks::Lending;
 use card_record::{Registers, Sent};
 use command::Met;
 use crossing::{groups_of, link_of, locked_of, mode_of, registers_of, tell_errors, tell_link};
@@ -112,7 +113,8 @@ fn hear(
     let link = link_of(*numbers);
     let met = met_of(*numbers, wins);
     let whole = card_record::csd_protects(*csd);
-    let heard = card::heard(mode, selected, link, met, whole, command, memory, map);
+    let lent = &mut Lending { memory, map };
+    let heard = card::heard(mode, selected, link, met, whole, command, lent);
     tell_link(heard.link, heard.mode, numbers);
     let registers = registers_of(*numbers, *cid, *csd);
     send(registers, heard.sent, answer)

@@ -9,7 +9,8 @@ use Rattle.card_record.specs.Record.{csd_protects}
 use Rattle.card_record.specs.declared.Card.{Card}
 use Rattle.spi.specs.Hearing.{heard_of}
 use Rattle.spi.specs.declared.Heard.{Heard}
-use Rattle.store.specs.Lent.{Seen, lent_of, seen}
+use Rattle.store.specs.Lent.{Seen, seen}
+use Rattle.card_blocks.specs.Lending.{held}
 use Rattle.card.specs.Frame.{commanded, spares, skip_told, spared_told, frame_told, command_heard}
 use Rattle.card_blocks.specs.Replies.{replied}
 use Rattle.card.specs.declared.Answered.{Answered}
@@ -40,8 +41,6 @@ at_card card wins selected index argument seen whole given w e =
 
 pub returns-clause-answer : goal.returns-clause-answer
 returns-clause-answer c = let a = c.args in
-    let m = a.memory.now in
-    let p = a.map.now in
-    let did : Heard = heard_of a.card.mode a.selected a.card.link (met_by a.card a.wins) a.command.index a.command.argument in at_card a.card a.wins a.selected a.command.index a.command.argument (seen (lent_of m p)) c.csd_protects-whole.result c.heard-given.result c.csd_protects-whole.ensures.answer
+    let did : Heard = heard_of a.card.mode a.selected a.card.link (met_by a.card a.wins) a.command.index a.command.argument in at_card a.card a.wins a.selected a.command.index a.command.argument (seen (held a.lent.now)) c.csd_protects-whole.result c.heard-given.result c.csd_protects-whole.ensures.answer
     (c.heard-given.ensures.answer
-    ∙ ap (λ (met : Met). command_heard a.card.mode a.selected a.card.link met c.csd_protects-whole.result a.command.index a.command.argument (seen (lent_of m p))) c.met_by-met.ensures.answer)
+    ∙ ap (λ (met : Met). command_heard a.card.mode a.selected a.card.link met c.csd_protects-whole.result a.command.index a.command.argument (seen (held a.lent.now))) c.met_by-met.ensures.answer)

@@ -1,12 +1,13 @@
 -- `card::frames::frame` meets its contract: 12, and then the frame as it was read.
 -- Assumes nothing.
-use mathlib.Core.Path.{◌≡◌, sym, ap, ◌∙◌}
+use mathlib.Core.Path.{◌≡◌, refl, sym, ap, ◌∙◌}
 use mathlib.Core.Bool.{Bool}
 use mathlib.Core.List.{List}
 use Prim.Native.Nat.{ℕ}
 use Rattle.base.specs.declared.Refusal.{Refusal}
 use Rattle.card_record.specs.declared.Card.{Card}
-use Rattle.store.specs.Lent.{Seen, lent_of, seen, lending_of, once_lent}
+use Rattle.card_blocks.specs.Lending.{held}
+use Rattle.store.specs.Lent.{Seen, seen, lending_of, once_lent}
 use Rattle.wire.specs.Frames.{framing_of}
 use Rattle.card.specs.Frame.{FrameJudged, frame_refused, framed, frame_judged, frame_told, frame_stepped, changed_by}
 use Rattle.card.proofs.frames.frame.Goals as goal
@@ -29,27 +30,26 @@ module _ (card : Card) (wins selected : Bool) (frame : List ℕ) (seen : Seen) w
 pub returns-in-Ok-clause-answer : goal.returns-in-Ok-clause-answer
 unfolding frame_stepped
 returns-in-Ok-clause-answer c = let a = c.args in
-    let m = a.memory.now in
-    let p = a.map.now in
-    let j = heard a.card a.wins a.selected a.frame.now (seen (lent_of m p)) c.unframe-framing.ensures.answer (sym c.lent_check.ensures.answer ∙ c.in-Ok.is) in c.framed.ensures.answer ∙ ap (frame_told a.card (seen (lent_of m p))) j
+    let lent = held a.lent.now in
+    let j = heard a.card a.wins a.selected a.frame.now (seen lent) c.unframe-framing.ensures.answer (sym c.check.ensures ∙ c.in-Ok.is) in c.framed.ensures.answer ∙ ap (frame_told a.card (seen lent)) j
 
 pub returns-in-Ok-clause-lent : goal.returns-in-Ok-clause-lent
 unfolding frame_stepped
 returns-in-Ok-clause-lent c = let a = c.args in
-    let m = a.memory.now in
-    let p = a.map.now in
-    let j = heard a.card a.wins a.selected a.frame.now (seen (lent_of m p)) c.unframe-framing.ensures.answer (sym c.lent_check.ensures.answer ∙ c.in-Ok.is) in c.framed.ensures.lent ∙ ap (λ (x : FrameJudged). changed_by a.card x.change (lent_of m p)) j
+    let lent = held a.lent.now in
+    let j = heard a.card a.wins a.selected a.frame.now (seen lent) c.unframe-framing.ensures.answer (sym c.check.ensures ∙ c.in-Ok.is) in
+    let d = c.framed.ensures.lent in
+    record { memory = d.memory; map = d.map; holds = d.holds ∙ ap (λ (x : FrameJudged). changed_by a.card x.change lent) j }
 
 pub returns-in-Err-clause-answer : goal.returns-in-Err-clause-answer
 unfolding frame_stepped
 returns-in-Err-clause-answer c = let a = c.args in
-    let m = a.memory.now in
-    let p = a.map.now in
-    let j = unheard a.card a.wins a.selected a.frame.now (seen (lent_of m p)) (sym c.lent_check.ensures.answer ∙ c.in-Err.is) in c.refuse.ensures.answer ∙ ap (frame_told a.card (seen (lent_of m p))) j
+    let lent = held a.lent.now in
+    let j = unheard a.card a.wins a.selected a.frame.now (seen lent) (sym c.check.ensures ∙ c.in-Err.is) in c.refuse.ensures.answer ∙ ap (frame_told a.card (seen lent)) j
 
 pub returns-in-Err-clause-lent : goal.returns-in-Err-clause-lent
 unfolding frame_stepped
 returns-in-Err-clause-lent c = let a = c.args in
-    let m = a.memory.now in
-    let p = a.map.now in
-    let j = unheard a.card a.wins a.selected a.frame.now (seen (lent_of m p)) (sym c.lent_check.ensures.answer ∙ c.in-Err.is) in ap (λ (x : FrameJudged). changed_by a.card x.change (lent_of m p)) j
+    let lent = held a.lent.now in
+    let j = unheard a.card a.wins a.selected a.frame.now (seen lent) (sym c.check.ensures ∙ c.in-Err.is) in
+    record { memory = refl; map = refl; holds = ap (λ (x : FrameJudged). changed_by a.card x.change lent) j }

@@ -1,6 +1,6 @@
 -- `card::frames::framed` meets its contract: 1 and 2 as `unframe` told them, then 3, and then the command.
 -- Assumes nothing.
-use mathlib.Core.Path.{◌≡◌, sym, ap, ◌∙◌}
+use mathlib.Core.Path.{◌≡◌, refl, sym, ap, ◌∙◌}
 use mathlib.Core.Bool.{Bool}
 use Prim.Native.Nat.{ℕ}
 use Rattle.base.specs.Choice.{unless}
@@ -12,7 +12,8 @@ use Rattle.command.specs.declared.Change.TheVariants.{Nothing}
 use Rattle.spi.proofs.Laws.{damage_unchanged}
 use Rattle.spi.specs.Hearing.{heard_of, crc_passes, damaged_of}
 use Rattle.spi.specs.declared.Heard.{Heard}
-use Rattle.store.specs.Lent.{Lent, lent_of, seen}
+use Rattle.store.specs.Lent.{Lent, seen}
+use Rattle.card_blocks.specs.Lending.{held}
 use Rattle.card.specs.Frame.{FrameJudged, commanded, framed, spares, spared_told, frame_told, changed_by}
 use Rattle.card.proofs.frames.framed.Goals as goal
 use Rattle.std.specs.Prelude.{Result, Ok, Err, None}
@@ -50,10 +51,11 @@ module _ (card : Card) (selected : Bool) (lent : Lent) where
 
 pub returns-else-crc_passes-clause-answer : goal.returns-else-crc_passes-clause-answer
 returns-else-crc_passes-clause-answer c = let a = c.args in
-    let lent = lent_of a.memory.now a.map.now in
+    let lent = held a.lent.now in
     let j = read a.card a.wins a.selected c.in-Ok.is (sym c.crc_passes.ensures.answer ∙ c.if-crc_passes.false) in c.damaged.ensures ∙ told a.card a.selected lent ∙ ap (frame_told a.card (seen lent)) j
 
 pub returns-else-crc_passes-clause-lent : goal.returns-else-crc_passes-clause-lent
 returns-else-crc_passes-clause-lent c = let a = c.args in
-    let lent = lent_of a.memory.now a.map.now in
-    let j = read a.card a.wins a.selected c.in-Ok.is (sym c.crc_passes.ensures.answer ∙ c.if-crc_passes.false) in kept a.card a.selected lent ∙ ap (λ (x : FrameJudged). changed_by a.card x.change lent) j
+    let lent = held a.lent.now in
+    let j = read a.card a.wins a.selected c.in-Ok.is (sym c.crc_passes.ensures.answer ∙ c.if-crc_passes.false) in
+    record { memory = refl; map = refl; holds = kept a.card a.selected lent ∙ ap (λ (x : FrameJudged). changed_by a.card x.change lent) j }

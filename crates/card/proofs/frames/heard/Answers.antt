@@ -5,7 +5,8 @@ use Rattle.command.specs.declared.Change.{Change}
 use Rattle.card_record.specs.declared.Link.{Link}
 use Rattle.card_record.specs.declared.Mode.{Mode}
 use Rattle.card_record.specs.declared.Sent.{Sent}
-use Rattle.store.specs.Lent.{lent_of, seen}
+use Rattle.store.specs.Lent.{seen}
+use Rattle.card_blocks.specs.Lending.{held}
 use Rattle.card.specs.Frame.{sparing, skip_told, answered_by, command_heard}
 use Rattle.card.specs.declared.Answered.{Answered}
 use Rattle.card.proofs.frames.heard.Goals.{in-Nothing, in-Protect, in-Erase}
@@ -19,7 +20,7 @@ unfolding command_heard
 returns-clause-answer c =
     let a = c.args in
     let given = c.hear-given.result in
-    let before = seen (lent_of a.memory.now a.map.now) in
+    let before = seen (held a.lent.now) in
     let by = λ (change : Change). skip_told given.link (sparing a.link.tags a.whole before change) in
     let told : c.match-given.told ≡ by given.change =
     elim c.match-given.branch [

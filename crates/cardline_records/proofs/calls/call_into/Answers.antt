@@ -5,7 +5,7 @@ use native.Mathlib.Omega.{arith}
 use lib.ListN.{length}
 use Rattle.cardline_looks.specs.Lines.{line_room}
 use Rattle.cardline_records.proofs.Lending.{told_record, told_text}
-use Rattle.cardline_records.specs.Buffers.{held}
+use Rattle.card_blocks.specs.Lending.{held}
 use Rattle.text.proofs.Writing.{line_as, line_most}
 use Rattle.cardline_records.proofs.calls.call_into.Goals as goal
 

@@ -7,14 +7,14 @@ use Rattle.cardline_records.proofs.calls.lent_step.Goals as goal
 pub returns-clause-answer : goal.returns-clause-answer
 returns-clause-answer c =
     let a = c.args in
-    let s = c.step_in_place in
+    let s = c.step in
     stepped_answer a.card a.lent a.call a.input.now a.buffers.now.memory.now a.buffers.now.map.now a.output.now _ _ c.min-k.ensures c.min-j.ensures
     s.result s.ensures.answer
 
 pub returns-clause-lent : goal.returns-clause-lent
 returns-clause-lent c =
     let a = c.args in
-    let s = c.step_in_place in
+    let s = c.step in
     record {
       memory = refl;
       map = refl;
@@ -25,6 +25,6 @@ returns-clause-lent c =
 pub returns-clause-output : goal.returns-clause-output
 returns-clause-output c =
     let a = c.args in
-    let s = c.step_in_place in
+    let s = c.step in
     stepped_output a.card a.lent a.call a.input.now a.buffers.now.memory.now a.buffers.now.map.now a.output.now _ _ c.min-k.ensures c.min-j.ensures
-    s.new.out s.ensures.output
+    s.new.output s.ensures.output

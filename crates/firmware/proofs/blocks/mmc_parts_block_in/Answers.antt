@@ -1,6 +1,6 @@
 -- `firmware::blocks::mmc_parts_block_in` meets its contract: 12 leaves the record, and else the card's call, between a record taken in and told.
 -- Assumes nothing.
-use mathlib.Core.Path.{◌≡◌, sym, ap, ◌∙◌}
+use mathlib.Core.Path.{◌≡◌, sym, ap, ap₂, ◌∙◌}
 use mathlib.Core.List.{List}
 use Prim.Native.Nat.{ℕ}
 use native.Mathlib.Omega.{arith}
@@ -69,7 +69,7 @@ returns-then-leaves_record c =
     let taken = c.card_of-card.ensures.answer in
     let does = c.taken_in-stepped.ensures in
     let stepped = stepped_as numbers cid csd password block response lent _ _ lending taken does.answer in
-    let stored = stored_as numbers cid csd password block response lent _ _ lending taken does.lent in
+    let stored = stored_as numbers cid csd password block response lent _ _ lending taken (ap₂ lent_of (c.memory-1.given.1.1 (sym does.lent.memory)) (c.map-1.given.1.1 (sym does.lent.map)) ∙ does.lent.holds) in
     let sends = c.send_byte.ensures in
     let left =
     in_left numbers cid csd password block lent response _ stepped _ _ sends.output sends.answer _ _ c.number_told-number.ensures.answer
@@ -91,7 +91,7 @@ returns c =
     let taken = c.card_of-card.ensures.answer in
     let does = c.taken_in-stepped.ensures in
     let stepped = stepped_as numbers cid csd password block response lent _ _ lending taken does.answer in
-    let stored = stored_as numbers cid csd password block response lent _ _ lending taken does.lent in
+    let stored = stored_as numbers cid csd password block response lent _ _ lending taken (ap₂ lent_of (c.memory-1.given.1.1 (sym does.lent.memory)) (c.map-1.given.1.1 (sym does.lent.map)) ∙ does.lent.holds) in
     let sends = c.send_byte.ensures in
     let told = c.tell_link_and_lock.ensures in
     let left =
