@@ -94,13 +94,7 @@ pub fn decide(card: Card, wins: bool, command: Command) -> Decided
 }
 
 // One card's turn, as it was decided.
-pub fn turn(
-    heard: Heard,
-    card: Card,
-    wins: bool,
-    command: Command,
-    decided: Decided,
-) -> Turned
+pub fn turn(heard: Heard, card: Card, wins: bool, command: Command, decided: Decided) -> Turned
     requires { (command.index ≤ 63) × (decided ≡ decided_at card wins command.index command.argument) }
     ensures { result ≡ turn_of heard card wins command.index command.argument }
 {

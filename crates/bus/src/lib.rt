@@ -15,8 +15,8 @@ use base::Refusal;
 use card_record::Card;
 use contest::{contends, holds, lowest};
 use hearing::{asked_of, decide, line_by, quiet, shown_by, turn};
-use wire::Command;
 use std::marker::Model;
+use wire::Command;
 
 // The cards in the places from 0 on; a count over 30 reads as 30.
 // An array with a count, since there is no heap, and `count_of` and `cards_of` of specs/Bus.antt name both.

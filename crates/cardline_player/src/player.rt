@@ -26,7 +26,8 @@ pub struct CardPlayer<'a> {
 impl<'a> CardPlayer<'a> {
     // Before the first record.
     pub fn fresh(memory: &'a mut [u8], map: &'a mut [u8]) -> CardPlayer<'a>
-        ensures { (result.progress ≡ fresh_progress) × (result.from ≡ 0) }
+        ensures kept { (result.progress ≡ fresh_progress) × (result.from ≡ 0) }
+        ensures lent { lent_of result.memory.now result.map.now ≡ lent_of memory.old map.old }
     {
         CardPlayer {
             progress: cardline_records::fresh(),
