@@ -76,7 +76,7 @@ pub fn number(r: Refusal) -> u8
     }
 }
 
-// Every byte made one value.
+// Every byte made one value. (The slice's own `fill` takes 13 instructions more a call.)
 pub fn fill(bytes: &mut [u8], value: u8)
     ensures bytes { bytes.new ≡ replicate (length bytes.old) value }
 {

@@ -15,6 +15,7 @@ pub fn bad_kind_line(out: &mut [u8]) -> usize
 }
 
 // What is printed of the bytes that are left over at the end of the input, as far as there is room.
+// A card's `cut` is given their number alone, and both are public.
 pub fn cut(rest: &[u8], out: &mut [u8]) -> usize
     ensures { Put out.old out.new 0 result (cut_text rest.now) }
 {

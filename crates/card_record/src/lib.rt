@@ -42,7 +42,7 @@ pub struct Link {
 }
 
 // How a card is spoken to: in MMC mode or in SPI, and there whether it checks CRCs. In MMC mode it
-// always does, and `checks` is off.
+// always does, and `checks` is off. Two flags, since C tells any two, and both come back (`mode_of`).
 #[derive(Clone, Copy)]
 pub struct Mode {
     pub spi: bool,

@@ -80,6 +80,7 @@ fn refused_line(
     page.at
 }
 
+// What a good call prints differs from `taken_line`, and the word: a closure for it reads no plainer.
 fn frame_line(count: u64, registers: Registers, reply: Reply, out: &mut [u8]) -> usize
     ensures { Line (line_room 20 17) out.old out.new result (frame_text count registers reply.outcome reply.sent) }
 {

@@ -10,8 +10,6 @@ pub fn byte(script: &[u8], at: usize) -> u8
     script.get(at).copied().unwrap_or(0)
 }
 
-// Byte by byte: an array of N bytes by `array::from_fn` was tried, and its proof did not close, since the closure's captures are lost.
-
 // The byte so many places further on: where the sum doesn't fit, no script is so long.
 fn further(script: &[u8], at: usize, more: usize) -> u8
     ensures { result ≡ get_or script.now (at + more) 0 }
@@ -19,6 +17,7 @@ fn further(script: &[u8], at: usize, more: usize) -> u8
     byte(script, at.saturating_add(more))
 }
 
+// Each length for itself: one `[u8; N]` by `array::from_fn` was tried, and its proof did not close.
 #[tactic(auto, unfolding(crate::specs::Reading::two))]
 pub fn two(script: &[u8], at: usize) -> u16
     ensures answer { result ≡ two script.now at }

@@ -15,7 +15,7 @@ ghost use Rattle.crc.specs.Table.{Remainders};
 
 use remainders16::TABLE16;
 
-// The 32 bits of four bytes, highest first.
+// The 32 bits of four bytes, highest first: a name that the edit crc7_byte_left_out quotes.
 #[tactic(auto, using(crate::proofs::Bits::word_spelt))]
 pub fn word(a: u8, b: u8, c: u8, d: u8) -> u32
     ensures answer { result ≡ spelt (bits (a ∷ b ∷ c ∷ d ∷ [])) }

@@ -132,8 +132,7 @@ fn mode_number(mode: Mode) -> u32
 }
 
 // The link's numbers at the front of others, and those behind as they were.
-fn put_link(link: Link, numbers: &mut [u32])
-    requires { 8 ≤ length numbers.old }
+fn put_link(link: Link, numbers: &mut [u32; 13])
     ensures { numbers.new ≡ link_numbers link ++ drop 8 numbers.old }
 {
     let range = link.tags.range;
@@ -148,24 +147,21 @@ fn put_link(link: Link, numbers: &mut [u32])
 }
 
 // The number of the error bits, among the link's.
-fn put_errors(errors: Errors, numbers: &mut [u32])
-    requires { 5 ≤ length numbers.old }
+fn put_errors(errors: Errors, numbers: &mut [u32; 13])
     ensures { numbers.new ≡ set numbers.old 4 errors.bits }
 {
     numbers[4] = errors.bits;
 }
 
 // The mode's number behind the link's.
-fn put_mode(mode: Mode, numbers: &mut [u32])
-    requires { 9 ≤ length numbers.old }
+fn put_mode(mode: Mode, numbers: &mut [u32; 13])
     ensures { numbers.new ≡ take 8 numbers.old ++ mode_numbers mode ++ drop 9 numbers.old }
 {
     numbers[8] = mode_number(mode);
 }
 
 // The lock's numbers behind the mode's.
-fn put_lock(lock: Lock, numbers: &mut [u32])
-    requires { 11 ≤ length numbers.old }
+fn put_lock(lock: Lock, numbers: &mut [u32; 13])
     ensures { numbers.new ≡ take 9 numbers.old ++ lock_numbers lock ++ drop 11 numbers.old }
 {
     numbers[9] = u32::from(lock.locked);
@@ -174,8 +170,7 @@ fn put_lock(lock: Lock, numbers: &mut [u32])
 
 // The registers' numbers behind the lock's.
 #[tactic(auto, unfolding(crate::specs::Record::register_numbers))]
-fn put_registers(registers: Registers, numbers: &mut [u32])
-    requires { 13 ≤ length numbers.old }
+fn put_registers(registers: Registers, numbers: &mut [u32; 13])
     ensures { numbers.new ≡ take 11 numbers.old ++ register_numbers registers ++ drop 13 numbers.old }
 {
     numbers[11] = u32::from(registers.groups);

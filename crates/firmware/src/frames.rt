@@ -21,7 +21,8 @@ use command::Met;
 use crossing::{groups_of, link_of, locked_of, mode_of, registers_of, tell_errors, tell_link};
 use wire::{Command, Fields};
 
-// What a command meets beside the link, at the card that the numbers stand for.
+// What a command meets beside the link, at the card that the numbers stand for: `command::met_by` of
+// C's numbers, which never become a card.
 fn met_of(numbers: [u32; 13], wins: bool) -> Met
     ensures { result ≡ met_at numbers wins }
 {

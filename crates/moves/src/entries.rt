@@ -24,6 +24,7 @@ pub const PRG: Move = Move::To(Column::Prg);
 pub const DIS: Move = Move::To(Column::Dis);
 
 pub const INA: Move = Move::To(Column::Ina);
+
 // No move. Ignored: in Inactive, and by check 4 elsewhere than in tran, data, rcv and prg, where it
 // is illegal; silent: by check 3. Source document 001 marks some of these otherwise
 // (docs/DECISIONS.md, "Where the table of moves departs from source 001").

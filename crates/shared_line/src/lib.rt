@@ -40,7 +40,7 @@ pub fn is_low(low: Option<[u8; 16]>, cid: [u8; 16]) -> bool
     }
 }
 
-// What the line held, ANDed with a frame.
+// What the line held, ANDed with a frame: by index, as the edit or_for_and names it.
 pub fn and(line: [u8; 17], frame: &[u8]) -> [u8; 17]
     ensures answer { result ≡ anded line frame.now }
 {

@@ -56,6 +56,7 @@ pub enum Column {
     Ina,
 }
 
+// A `From` beside it would be a second name.
 pub fn column_of(state: State) -> Column
     ensures answer { result ≡ column_of state }
 {
@@ -73,8 +74,7 @@ pub fn column_of(state: State) -> Column
     }
 }
 
-// The number of a state, which is its place among the columns: a status shows it, and a table of
-// moves is indexed by it.
+// The number of a state, which is its place among the columns: a status shows it.
 pub fn number(column: Column) -> u8
     ensures answer { result ≡ column_number column }
 {

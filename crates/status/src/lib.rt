@@ -55,7 +55,7 @@ pub fn set(errors: Errors, bit: ErrorBit) -> Errors
     }
 }
 
-// What a taken command that answers no R1 leaves pending.
+// What a taken command that answers no R1 leaves pending. A mask is all that it shares with SPI's.
 pub fn clear_command_bits(errors: Errors) -> Errors
     ensures answer { result ≡ command_bits_cleared errors }
 {

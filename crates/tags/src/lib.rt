@@ -122,6 +122,7 @@ pub fn tag_start(kind: Kind, address: u32, size: u32) -> Tagging
     }
 }
 
+// Two questions in place of one Option: the edit start_of_the_other_kind and `first_of` name them.
 fn has_start(tags: Tags, kind: Kind) -> bool
     ensures { result ≡ has_start kind tags.range }
 {

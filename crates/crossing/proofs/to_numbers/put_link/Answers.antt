@@ -1,5 +1,7 @@
 -- `crossing::to_numbers::put_link` meets its contract: eight stores from the front are the link's eight numbers and the rest as it was.
 -- Assumes nothing.
+use borrow.Author.Rules.{rules}
+use native.Mathlib.Omega.{arith}
 use mathlib.Core.Path.{◌≡◌, ◌∙◌}
 use mathlib.Core.List.{List, [], ◌∷◌, ◌++◌}
 use Prim.Native.Nat.{ℕ, ◌≤◌}
@@ -20,5 +22,6 @@ stored link numbers state at address size tags first last long e1 e2 e3 e4 e5 e6
 
 pub returns : goal.returns
 returns c =
-    stored c.args.link c.args.numbers.now _ _ _ _ _ _ _ c.requires c.state_number.ensures c.place_carried.ensures c.from.ensures c.from-2.ensures
+    let long : length c.args.numbers.now ≡ 13 = search rules in
+    stored c.args.link c.args.numbers.now _ _ _ _ _ _ _ (omega (arith, long)) c.state_number.ensures c.place_carried.ensures c.from.ensures c.from-2.ensures
     c.tags_number.ensures c.first_of.ensures c.last_of.ensures

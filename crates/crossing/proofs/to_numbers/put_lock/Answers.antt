@@ -1,5 +1,7 @@
 -- `crossing::to_numbers::put_lock` meets its contract: two stores behind the mode's number.
 -- Assumes nothing.
+use borrow.Author.Rules.{rules}
+use native.Mathlib.Omega.{arith}
 use mathlib.Core.Path.{◌≡◌, refl, ◌∙◌}
 use mathlib.Core.Bool.{Bool, true, false}
 use mathlib.Core.List.{List, [], ◌∷◌, ◌++◌}
@@ -22,4 +24,6 @@ unfolding lock_numbers
 stored lock numbers locked size long e1 e2 = sets-eq (locked ∷ size ∷ []) numbers 9 long ∙ simp (e1, is_flag lock.locked, e2)
 
 pub returns : goal.returns
-returns c = stored c.args.lock c.args.numbers.now _ _ c.requires c.from.ensures c.from-2.ensures
+returns c =
+    let long : length c.args.numbers.now ≡ 13 = search rules in
+    stored c.args.lock c.args.numbers.now _ _ (omega (arith, long)) c.from.ensures c.from-2.ensures
