@@ -44,10 +44,7 @@ fn erase_tagging(tags: Tags) -> Tagging
     ensures { result ≡ erase_tagging tags }
 {
     if !tags::complete(tags) {
-        return Tagging {
-            tags: tags::no_tags(),
-            error: Some(ErrorBit::EraseSeqError),
-        };
+        return tags::failed(ErrorBit::EraseSeqError);
     }
     Tagging {
         tags: tags::no_tags(),
@@ -85,10 +82,7 @@ fn judge(link: Link, groups: u16, locked: bool, command: Command) -> Tagging
     ensures { result ≡ judged_of link groups locked command.index command.argument }
 {
     if !passes_lock(locked, command.index) {
-        return Tagging {
-            tags: tags::no_tags(),
-            error: Some(ErrorBit::LockUnlockFailed),
-        };
+        return tags::failed(ErrorBit::LockUnlockFailed);
     }
     tagging(link, card_record::size(groups), command)
 }

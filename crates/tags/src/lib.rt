@@ -2,8 +2,8 @@
 // sectors or of erase groups, by their numbers; what CMD32, 33, 35 and 36 do with them, and what
 // CMD38 takes. No call has a `requires`: tags that no command made are answered too.
 //
-// Offers: `Kind`, `Range`, `Tags`, `tagged`; `no_tags`, `any`, `complete`; `Tagging`, `tag_start`,
-// `tag_end`.
+// Offers: `Kind`, `Range`, `Tags`, `tagged`; `no_tags`, `any`, `complete`; `Tagging`, `failed`,
+// `tag_start`, `tag_end`.
 #![tactic(auto)]
 
 ghost use Rattle.std.specs.Prelude.{◌≡◌};
@@ -98,8 +98,8 @@ fn place_in(kind: Kind, address: u32) -> u32
 }
 
 // An error in a tag command drops the tags.
-fn fail(bit: ErrorBit) -> Tagging
-    ensures { result ≡ tag_failed bit }
+pub fn failed(bit: ErrorBit) -> Tagging
+    ensures answer { result ≡ tag_failed bit }
 {
     Tagging {
         tags: no_tags(),
@@ -113,7 +113,7 @@ pub fn tag_start(kind: Kind, address: u32, size: u32) -> Tagging
     ensures answer { result ≡ start_tagged kind address size }
 {
     if size <= address {
-        return fail(ErrorBit::OutOfRange);
+        return failed(ErrorBit::OutOfRange);
     }
     let first = place_in(kind, address);
     Tagging {
@@ -161,18 +161,18 @@ pub fn tag_end(tags: Tags, kind: Kind, address: u32, size: u32) -> Tagging
     ensures answer { result ≡ end_tagged tags kind address size }
 {
     if size <= address {
-        return fail(ErrorBit::OutOfRange);
+        return failed(ErrorBit::OutOfRange);
     }
     if !has_start(tags, kind) {
-        return fail(ErrorBit::EraseSeqError);
+        return failed(ErrorBit::EraseSeqError);
     }
     let first = first_of(tags);
     let last = place_in(kind, address);
     if last < first {
-        return fail(ErrorBit::EraseParam);
+        return failed(ErrorBit::EraseParam);
     }
     if !in_one_group(kind, first, last) {
-        return fail(ErrorBit::EraseParam);
+        return failed(ErrorBit::EraseParam);
     }
     Tagging {
         tags: new_tags(Range::Full(kind, first, last)),
