@@ -8,6 +8,8 @@
 --   first, last  two tests that hold at once, and so each of them
 --   both         two tests at once that antt computes, with its two parts
 --   passed       an answer that is no refusal passed the test that would have refused it
+--   unrefused    what a call gives is no refusal
+--   kept_by      it is given exactly if the test is passed
 -- Assumes nothing.
 use mathlib.Core.Path.{◌≡◌, refl, sym, ◌∙◌}
 use mathlib.Core.Bool.{Bool, true, false, ◌&&◌}
@@ -15,6 +17,8 @@ use Prim.Native.Nat.{ℕ}
 use native.Mathlib.Omega.{arith}
 use lib.Dec.{T}
 use Rattle.base.specs.Choice.{pick, unless}
+use Rattle.base.specs.declared.Refusal.{Refusal}
+use Rattle.std.specs.Prelude.{Result, Ok, Err, is_ok}
 
 pub cases : {P : Type 0} (t : Bool) → (t ≡ true → P) → (t ≡ false → P) → P
 cases true hit miss = hit refl
@@ -56,6 +60,13 @@ both_left false b t = t
 pub both_right : (a b : Bool) → T (both a b) → T b
 both_right true b t = t
 both_right false b t = absurd t
+
+pub unrefused : {A : Type 0} {refusal : Refusal} {given : A} → ◌≡◌ {A = Result A Refusal} (Err refusal) (Ok given) → ⊥
+unrefused e = clash cc
+
+pub kept_by : {A : Type 0} (refusal : Refusal) (given : A) (t : Bool) → is_ok (unless t (Err refusal) (Ok given)) ≡ t
+kept_by refusal given true = refl
+kept_by refusal given false = refl
 
 pub passed : {A : Type 0} (t : Bool) (refusal rest answer : A) → (refusal ≡ answer → ⊥) → unless t refusal rest ≡ answer → (t ≡ true) × (rest ≡ answer)
 passed true refusal rest answer no_refusal e = (refl, e)

@@ -1,4 +1,3 @@
-pub mod Branch
 pub mod Cases
 pub mod Copying
 pub mod Numbers

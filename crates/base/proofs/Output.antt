@@ -19,14 +19,14 @@ use lib.Seq.{drop-append_seam, take_at}
 use Rattle.base.proofs.Cases.{cases}
 use Rattle.base.specs.Output.{fits, laid, bytes_of}
 use Rattle.base.specs.Refusals.{by}
-use Rattle.base.specs.declared.Written.{Written}
-use Rattle.base.specs.declared.Written.TheVariants.{Bytes, Refused}
+use Rattle.std.specs.Prelude.{Result, Ok, Err}
+use Rattle.base.specs.declared.Refusal.{Refusal}
 
 module _ (bytes out : List ℕ) (n : ℕ) (long : length bytes ≡ n) where
-  pub short : length out < n → Refused (by 6) ≡ fits bytes out
+  pub short : length out < n → Err (by 6) ≡ fits bytes out
   short h = simp (long, lt-leb n (length out) h)
 
-  pub written : (last : List ℕ) → n ≤ length out → last ≡ bytes ++ drop n out → (Bytes n ≡ fits bytes out) × (last ≡ laid (Bytes n) bytes out)
+  pub written : (last : List ℕ) → n ≤ length out → last ≡ bytes ++ drop n out → (Ok n ≡ fits bytes out) × (last ≡ laid (Ok n) bytes out)
   written last h e = (simp (long, le-leb n (length out) h), simp long e)
 
 pub untouched : (bytes out : List ℕ) → length out < length bytes → laid (fits bytes out) bytes out ≡ out
@@ -41,7 +41,7 @@ rest_kept bytes out =
 pub front : (bytes out : List ℕ) (n : ℕ) → length bytes ≡ n → n ≤ length out → take n (laid (fits bytes out) bytes out) ≡ bytes
 front bytes out n long h = simp (long, le-leb n (length out) h) (take_at bytes (drop n out) n long)
 
-pub within : (bytes out : List ℕ) (answer : Written) → answer ≡ fits bytes out → bytes_of answer ≤ length out
+pub within : (bytes out : List ℕ) (answer : Result ℕ Refusal) → answer ≡ fits bytes out → bytes_of answer ≤ length out
 within bytes out answer e =
     rw e
     (cases (leb (length bytes) (length out))

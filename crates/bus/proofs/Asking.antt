@@ -12,15 +12,16 @@ use Rattle.base.proofs.Cases.{cases, both, both_left, both_right, guarded}
 use Rattle.base.specs.Choice.{unless}
 use Rattle.base.specs.Refusals.{by}
 use Rattle.moves.specs.Indices.{among}
-use Rattle.wire.specs.Frames.{framing_of}
-use Rattle.wire.specs.declared.Framing.{Framing}
-use Rattle.wire.specs.declared.Framing.TheVariants.{Framed, Unframed}
+use Rattle.wire.specs.Frames.{framing_of, as_fields}
 use Rattle.bus.specs.Bus.{count_of, cards_of, with_cards, bus_indices, refused_on, damaged_card, command_for, framed_on, bus_frame}
 use Rattle.bus.specs.Hearing.{framing_asked, bus_asked, told_of}
 use Rattle.bus.specs.declared.Asked.{Asked}
 use Rattle.bus.specs.declared.Asked.TheVariants.{Command, Damaged, Refused}
 use Rattle.bus.specs.declared.Bus.{Bus}
 use Rattle.bus.specs.declared.Framed.{Framed as Answered}
+use Rattle.std.specs.Prelude.{Result, Ok, Err}
+use Rattle.base.specs.declared.Refusal.{Refusal}
+use Rattle.wire.specs.declared.Fields.{Fields}
 
 -- ---- answered
 module _ (bus : Bus) where
@@ -34,16 +35,16 @@ module _ (bus : Bus) where
   by_index index argument true = refl
   by_index index argument false = refl
 
-  by_crc : (index argument : ℕ) (right : Bool) → answered_to (framing_asked (Framed index argument right)) ≡ framed_on bus (Framed index argument right)
+  by_crc : (index argument : ℕ) (right : Bool) → answered_to (framing_asked (Ok (as_fields index argument right))) ≡ framed_on bus (Ok (as_fields index argument right))
   unfolding command_for told_of
   by_crc index argument true = by_index index argument (among index bus_indices)
   by_crc index argument false = refl
 
-  by_framing : (framing : Framing) → answered_to (framing_asked framing) ≡ framed_on bus framing
-  by_framing (Unframed refusal) = refl
-  by_framing (Framed index argument right) = by_crc index argument right
+  by_framing : (framing : Result Fields Refusal) → answered_to (framing_asked framing) ≡ framed_on bus framing
+  by_framing (Err refusal) = refl
+  by_framing (Ok fields) = by_crc fields.index fields.argument fields.crc_right
 
-  by_count : (framing : Framing) (t : Bool)
+  by_count : (framing : Result Fields Refusal) (t : Bool)
       → answered_to (unless t (Refused (by 13)) (framing_asked framing)) ≡ unless t (refused_on bus (by 13)) (framed_on bus framing)
   by_count framing true = by_framing framing
   by_count framing false = refl
@@ -74,10 +75,10 @@ Small (Command index argument) = index ≤ 63
 Small Damaged = Unit {0}
 Small (Refused refusal) = Unit {0}
 
-framing_small : (framing : Framing) → Small (framing_asked framing)
-framing_small (Unframed refusal) = tt
-framing_small (Framed index argument right) =
-    guarded Small right (λ t. tt) (λ t. guarded Small (among index bus_indices) (λ u. tt) (λ u. listed_small index bus_indices tt u))
+framing_small : (framing : Result Fields Refusal) → Small (framing_asked framing)
+framing_small (Err refusal) = tt
+framing_small (Ok fields) =
+    guarded Small fields.crc_right (λ t. tt) (λ t. guarded Small (among fields.index bus_indices) (λ u. tt) (λ u. listed_small fields.index bus_indices tt u))
 
 pub asked_small : (count : ℕ) (frame : List ℕ) (asked : Asked) (index argument : ℕ) → asked ≡ bus_asked count frame
     → asked ≡ Command index argument → index ≤ 63

@@ -22,11 +22,12 @@ use Rattle.command.specs.declared.Commanded.{Commanded}
 use Rattle.moves.specs.Indices.{among}
 use Rattle.shared_line.specs.Line.{Sender, line, heard, wins}
 use Rattle.wire.specs.Frames.{framing_of}
-use Rattle.wire.specs.declared.Framing.{Framing}
-use Rattle.wire.specs.declared.Framing.TheVariants.{Framed, Unframed}
 use Rattle.bus.specs.Bus.{count_of, cards_of, with_cards, is_ready, cid_sender, cid_bits, wins_line, command_on, command_at, card_after, frame_from, bus_indices, refused_on, damaged_card, command_for, framed_on, bus_frame}
 use Rattle.bus.specs.declared.Bus.{Bus}
 use Rattle.bus.specs.declared.Framed.{Framed as Answered}
+use Rattle.std.specs.Prelude.{Result, Ok, Err}
+use Rattle.base.specs.declared.Refusal.{Refusal}
+use Rattle.wire.specs.declared.Fields.{Fields}
 
 -- ---- at one card
 module _ (card : Card) where
@@ -84,15 +85,16 @@ module _ (bus : Bus) (place : ℕ) (none : Card) (spi : (get_or bus.cards place 
   abbrev Kept : Answered → Type 0
   Kept answered = get_or answered.bus.cards place none ≡ get_or bus.cards place none
 
-  framed_kept : (framing : Framing) → Kept (framed_on bus framing)
+  framed_kept : (framing : Result Fields Refusal) → Kept (framed_on bus framing)
   unfolding command_for with_cards
-  framed_kept (Unframed refusal) = refl
-  framed_kept (Framed index argument right) =
+  framed_kept (Err refusal) = refl
+  framed_kept (Ok fields) =
       let card : Card = get_or bus.cards place none in
-      guarded Kept right
+      guarded Kept fields.crc_right
       (λ t. changed_kept damaged_card (count_of bus) place bus.cards none (damage_unheard card spi))
-      (λ t. guarded Kept (among index bus_indices) (λ u. refl)
-      (λ u. changed_kept (card_after (cards_of bus) index argument) (count_of bus) place bus.cards none (command_unheard card spi (cards_of bus) index argument)))
+      (λ t. guarded Kept (among fields.index bus_indices) (λ u. refl)
+      (λ u. changed_kept (card_after (cards_of bus) fields.index fields.argument) (count_of bus) place bus.cards none
+      (command_unheard card spi (cards_of bus) fields.index fields.argument)))
 
   pub spi_kept : (frame : List ℕ) → Kept (bus_frame bus frame)
   unfolding bus_frame

@@ -43,11 +43,10 @@ use Rattle.bus.specs.Hearing.{quiet, heard_of, heard_from, turn_of, sent_on, tol
 use Rattle.bus.specs.declared.Bus.{Bus}
 use Rattle.bus.specs.declared.Framed.{Framed}
 use Rattle.bus.specs.declared.Heard.{Heard}
-use Rattle.shared_line.specs.Lowest.{no_low}
-use Rattle.shared_line.specs.declared.Low.{Low}
-use Rattle.bus.specs.declared.Shown.{Shown}
-use Rattle.bus.specs.declared.Shown.TheVariants.{Line, Silent}
+use Rattle.shared_line.specs.Lowest.{Low, no_low}
+use Rattle.std.specs.Prelude.{is_some, Result, Option, Ok, Some, None}
 use Rattle.bus.specs.declared.Turned.{Turned}
+use Rattle.base.specs.declared.Refusal.{Refusal}
 
 abbrev turned : Card → Heard → Turned
 turned card heard = record { card = card; heard = heard }
@@ -162,14 +161,14 @@ module _ (bus : Bus) (index argument : ℕ) where
       (kept ∙ more.0, ap (λ (t : Turned). t.heard) (sym same) ∙ more.1)
 
   -- a loser: the contest is CMD2's alone
-  pub lost_alone : (low : Low) (card : Card) → low ≡ low_for bus index → low.any ≡ true → command_on card false index argument ≡ silent card.link
+  pub lost_alone : (low : Low) (card : Card) → low ≡ low_for bus index → is_some low ≡ true → command_on card false index argument ≡ silent card.link
   unfolding low_for no_low
   lost_alone low card found any =
       cases (eqb index 2)
       (λ (t : eqb index 2 ≡ true).
       subst (λ (k : ℕ). command_on card false k argument ≡ silent card.link) (sym (eqb-true index 2 t)) (taken_lost card argument))
       (λ (t : eqb index 2 ≡ false).
-      let none : low.any ≡ false = ap (λ (l : Low). l.any) (simp t at found) in
+      let none : is_some low ≡ false = ap is_some (simp t at found) in
       absurd (false≢true (sym none ∙ any)))
 
 -- ---- all at once
@@ -196,13 +195,13 @@ line_is_heard bus index argument heard held short small e =
     (λ (t : eqb index 2 ≡ false). let left : line_of cards index argument ≡ and_line frames = simp t in left ∙ both)
 
 -- what a line of bytes is as an answer
-abbrev answer_with : Bus → Shown → List ℕ → Framed
+abbrev answer_with : Bus → Result (Option ℕ) Refusal → List ℕ → Framed
 answer_with bus shown line = record { bus = bus; shown = shown; line = line }
 
 abbrev answer_of : Bus → List ℕ → Framed
 answer_of bus line = answer_with bus (shown_of line) (padded line)
 
-pub told_is_command : (bus next : Bus) (heard : Heard) (shown : Shown) (bytes : List ℕ) (index argument : ℕ)
+pub told_is_command : (bus next : Bus) (heard : Heard) (shown : Result (Option ℕ) Refusal) (bytes : List ℕ) (index argument : ℕ)
     → next ≡ with_cards bus (map (card_after (cards_of bus) index argument) (cards_of bus))
     → line_of (cards_of bus) index argument ≡ sent_on heard → shown ≡ shown_of (sent_on heard) → bytes ≡ padded (sent_on heard)
     → answer_with next shown bytes ≡ told_of bus index argument
@@ -219,11 +218,11 @@ drop_replicate (suc n) (suc m) a h =
 abbrev pub zeros : List ℕ
 zeros = replicate 17 0
 
-shown_line : (l : List ℕ) (n : ℕ) → length l ≡ n → 1 ≤ n → Line n ≡ shown_of l
+shown_line : (l : List ℕ) (n : ℕ) → length l ≡ n → 1 ≤ n → Ok (Some n) ≡ shown_of l
 shown_line [] n e h = absurd (omega arith)
-shown_line (b ∷ l) n e h = ap Line (sym e)
+shown_line (b ∷ l) n e h = ap (λ (k : ℕ). Ok (Some k)) (sym e)
 
-shown_none : (l : List ℕ) → length l ≡ 0 → Silent ≡ shown_of l
+shown_none : (l : List ℕ) → length l ≡ 0 → Ok None ≡ shown_of l
 shown_none [] e = refl
 shown_none (b ∷ l) e = absurd (omega arith)
 
@@ -231,10 +230,10 @@ module _ (heard : Heard) (short : heard.length ≤ 17) (long : length heard.line
   sent_length : length (sent_on heard) ≡ heard.length
   sent_length = length-take-le heard.length heard.line (omega arith)
 
-  pub shown_silent : heard.length < 1 → Silent ≡ shown_of (sent_on heard)
+  pub shown_silent : heard.length < 1 → Ok None ≡ shown_of (sent_on heard)
   shown_silent h = shown_none (sent_on heard) (sent_length ∙ omega arith)
 
-  pub shown_bytes : 1 ≤ heard.length → Line heard.length ≡ shown_of (sent_on heard)
+  pub shown_bytes : 1 ≤ heard.length → Ok (Some heard.length) ≡ shown_of (sent_on heard)
   shown_bytes h = shown_line (sent_on heard) heard.length sent_length h
 
   pub filled : (line : List ℕ) → line ≡ copied (take (heard.length - 0) heard.line) zeros 0 → line ≡ padded (sent_on heard)

@@ -11,10 +11,11 @@ use mathlib.Core.List.Memᴰ
 use mathlib.Core.List.{List, [], ◌∷◌, ◌++◌, map, Memᴰ}
 use mathlib.Core.Logic.{◌⊎◌, inl, inr, ⊎_elim}
 use Prim.Native.Nat.{ℕ, ◌+◌, ◌*◌, ◌≤◌, ◌<◌}
-use native.Mathlib.Nat.{le_refl, le_trans}
+use native.Mathlib.Nat.{le_refl}
 use native.Mathlib.Numerals.{add-one}
 use native.Mathlib.Omega.{arith}
 use lib.ListN.{length, take, get_or}
+use Rattle.std.specs.Prelude.{None, Some, is_some}
 use lib.Seq.{take-suc}
 use Rattle.base.proofs.Cases.{cases, last}
 use Rattle.crc.proofs.Bits.{length_bits, bits_below}
@@ -22,8 +23,7 @@ use Rattle.crc.specs.Bits.{bits, spelt, Below}
 use Rattle.shared_line.proofs.Arbitration.{Bitwise, bitwise, winners, line_is_smallest}
 use Rattle.shared_line.proofs.Orders.{by_order_lem}
 use Rattle.shared_line.specs.Line.{Sender, contested}
-use Rattle.shared_line.specs.Lowest.{cid_number, no_low, low_by, is_lower, lower_of, is_low}
-use Rattle.shared_line.specs.declared.Low.{Low}
+use Rattle.shared_line.specs.Lowest.{cid_number, Low, no_low, low_by, is_lower, lower_of, is_low}
 use Rattle.card_record.specs.declared.Card.{Card}
 use Rattle.bus.specs.Bus.{is_ready, cid_sender, cid_bits, wins_line}
 use Rattle.bus.specs.Contest.{cid_of, better_of, low_from, holds_low, Held}
@@ -46,37 +46,39 @@ low_turn low was now cards i d h p q =
     (ap (λ (k : ℕ). low_from low (take k cards)) (add-one i) ∙ ap (low_from low) (take-suc cards i d h)
     ∙ low_snoc low (take i cards) (get_or cards i d))
 
+-- what was found is no larger than a number
+abbrev pub AtMost : Low → ℕ → Type 0
+AtMost None n = ⊥
+AtMost (Some cid) n = cid_number cid ≤ n
+
 -- one step: what was found is no larger, and a Ready card's CID is no smaller than what is found
-better_old : (low : Low) (card : Card) → low.any ≡ true
-    → ((better_of low card).any ≡ true) × (cid_number (better_of low card).cid ≤ cid_number low.cid)
+better_old : (low : Low) (card : Card) (n : ℕ) → AtMost low n → AtMost (better_of low card) n
 unfolding better_of lower_of is_lower
-better_old low card any =
+better_old None card n h = absurd h
+better_old (Some low) card n h =
     cases (is_ready card)
-    (λ r. by_order_lem (cid_of card) low.cid
-    (λ h o. rw (r, any, o) (refl, omega arith))
-    (λ h o. rw (r, any, o) (refl, le_refl (cid_number low.cid)))
-    (λ h o. rw (r, any, o) (refl, le_refl (cid_number low.cid))))
-    (λ r. rw r (any, le_refl (cid_number low.cid)))
+    (λ r. by_order_lem (cid_of card) low (λ l o. rw (r, o) (omega arith)) (λ l o. rw (r, o) h) (λ l o. rw (r, o) h))
+    (λ r. rw r h)
 
-better_new : (low : Low) (card : Card) → is_ready card ≡ true
-    → ((better_of low card).any ≡ true) × (cid_number (better_of low card).cid ≤ cid_number (cid_of card))
+better_new : (low : Low) (card : Card) → is_ready card ≡ true → AtMost (better_of low card) (cid_number (cid_of card))
 unfolding better_of lower_of is_lower
-better_new low card r =
-    cases low.any
-    (λ any. by_order_lem (cid_of card) low.cid
-    (λ h o. rw (r, any, o) (refl, le_refl (cid_number (cid_of card))))
-    (λ h o. rw (r, any, o) (refl, omega arith))
-    (λ h o. rw (r, any, o) (refl, omega arith)))
-    (λ any. rw (r, any) (refl, le_refl (cid_number (cid_of card))))
+better_new None card r = rw r (le_refl (cid_number (cid_of card)))
+better_new (Some low) card r =
+    by_order_lem (cid_of card) low (λ h o. rw (r, o) (le_refl (cid_number (cid_of card)))) (λ h o. rw (r, o) (omega arith))
+    (λ h o. rw (r, o) (omega arith))
 
-better_from : (low : Low) (card : Card) → (better_of low card ≡ low) ⊎ ((is_ready card ≡ true) × ((better_of low card).cid ≡ cid_of card))
+better_from : (low : Low) (card : Card) → (better_of low card ≡ low) ⊎ ((is_ready card ≡ true) × (better_of low card ≡ low_by (cid_of card)))
 unfolding better_of lower_of is_lower
-better_from low card =
+better_from None card = cases (is_ready card) (λ r. inr (r, rw r)) (λ r. inl (rw r))
+better_from (Some low) card =
     cases (is_ready card)
-    (λ r. cases low.any
-    (λ any. by_order_lem (cid_of card) low.cid (λ h o. inr (r, rw (r, any, o))) (λ h o. inl (rw (r, any, o))) (λ h o. inl (rw (r, any, o))))
-    (λ any. inr (r, rw (r, any))))
+    (λ r. by_order_lem (cid_of card) low (λ h o. inr (r, rw (r, o))) (λ h o. inl (rw (r, o))) (λ h o. inl (rw (r, o))))
     (λ r. inl (rw r))
+
+none_held : (low : Low) (card : Card) → (is_some low && is_ready card) ≡ false → false ≡ holds_low low card
+unfolding holds_low is_low
+none_held None card e = cases (is_ready card) (λ r. rw r) (λ r. rw r)
+none_held (Some low) card e = let r : is_ready card ≡ false = e in rw r
 
 -- the answers of the step and of the question, from the tests that code makes
 module _ (low : Low) (card : Card) where
@@ -95,47 +97,38 @@ module _ (low : Low) (card : Card) where
       better_left l = let e = sym told ∙ sent in let f = sym asked ∙ l in rw (e, f)
 
   -- a card that contends is asked; one that does not holds nothing that was found
-  module _ (arises : Bool) (told : arises ≡ (low.any && is_ready card)) where
+  module _ (any arises : Bool) (found : any ≡ is_some low) (told : arises ≡ (any && is_ready card)) where
     pub holds_asked : {won : Bool} → arises ≡ true → won ≡ is_low low (cid_of card) → won ≡ holds_low low card
-    unfolding holds_low is_low
-    holds_asked a asked = let r = last low.any (is_ready card) (sym told ∙ a) in rw r asked
+    unfolding holds_low
+    holds_asked a asked = let r = last any (is_ready card) (sym told ∙ a) in rw r asked
 
     pub holds_silent : arises ≡ false → false ≡ holds_low low card
-    unfolding holds_low is_low
-    holds_silent a =
-        cases low.any
-        (λ any. let r : is_ready card ≡ false = rw any at (sym told ∙ a) in rw r)
-        (λ any. cases (is_ready card) (λ r. rw (r, any)) (λ r. rw r))
+    holds_silent a = none_held low card (ap (λ (t : Bool). t && is_ready card) (sym found) ∙ sym told ∙ a)
 
-low_old : (low : Low) (cards : List Card) → low.any ≡ true
-    → ((low_from low cards).any ≡ true) × (cid_number (low_from low cards).cid ≤ cid_number low.cid)
+low_old : (low : Low) (cards : List Card) (n : ℕ) → AtMost low n → AtMost (low_from low cards) n
 unfolding low_from
-low_old low [] any = (any, le_refl (cid_number low.cid))
-low_old low (card ∷ cards) any =
-    let b = better_old low card any in
-    let r = low_old (better_of low card) cards b.0 in
-    (r.0, le_trans r.1 b.1)
+low_old low [] n h = h
+low_old low (card ∷ cards) n h = low_old (better_of low card) cards n (better_old low card n h)
 
 pub low_least : (low : Low) (cards : List Card) (card : Card) → Memᴰ card cards → is_ready card ≡ true
-    → ((low_from low cards).any ≡ true) × (cid_number (low_from low cards).cid ≤ cid_number (cid_of card))
+    → AtMost (low_from low cards) (cid_number (cid_of card))
 unfolding low_from
 low_least low [] card m r = absurd (Memᴰ.not-nil m)
 low_least low (x ∷ cards) card (Memᴰ.head e) r =
-    let b = better_new low x (ap is_ready (sym e) ∙ r) in
-    let o = low_old (better_of low x) cards b.0 in
-    (o.0, subst (λ (z : Card). cid_number (low_from (better_of low x) cards).cid ≤ cid_number (cid_of z)) (sym e) (le_trans o.1 b.1))
+    subst (λ (z : Card). AtMost (low_from (better_of low x) cards) (cid_number (cid_of z))) (sym e)
+    (low_old (better_of low x) cards (cid_number (cid_of x)) (better_new low x (ap is_ready (sym e) ∙ r)))
 low_least low (x ∷ cards) card (Memᴰ.tail m) r = low_least (better_of low x) cards card m r
 
 -- a Ready card of these holds what was found
-abbrev Owned : Low → List Card → Type 0
-Owned low cards = (card : Card) × Memᴰ card cards × (is_ready card ≡ true) × (low.cid ≡ cid_of card)
+abbrev pub Owned : Low → List Card → Type 0
+Owned low cards = (card : Card) × Memᴰ card cards × (is_ready card ≡ true) × (low ≡ low_by (cid_of card))
 
 pub low_from_lem : (low : Low) (cards : List Card) → (low_from low cards ≡ low) ⊎ Owned (low_from low cards) cards
 unfolding low_from
 low_from_lem low [] = inl refl
 low_from_lem low (card ∷ cards) =
     ⊎_elim
-    (λ e. ⊎_elim (λ f. inl (e ∙ f)) (λ f. inr (card, Memᴰ.head refl, f.0, ap (λ (l : Low). l.cid) e ∙ f.1)) (better_from low card))
+    (λ e. ⊎_elim (λ f. inl (e ∙ f)) (λ f. inr (card, Memᴰ.head refl, f.0, e ∙ f.1)) (better_from low card))
     (λ w. inr (w.0, Memᴰ.tail w.1, w.2, w.3))
     (low_from_lem (better_of low card) cards)
 
@@ -149,42 +142,39 @@ module _ (cards : List Card) (held : (card : Card) → Memᴰ card cards → Hel
       subst (λ (z : Sender). (length z.bits ≡ cid_bits) × Below 2 z.bits) w.2
       (length_bits (cid_of w.0) ∙ ap (λ (n : ℕ). n * 8) (held w.0 w.1).0, bits_below (cid_of w.0)))
 
-  -- where a card is Ready, the number that the line shows is the one that is found
+  -- where a card is Ready, a CID is found, and its number is the one that the line shows
   pub shown_low : (card : Card) → Memᴰ card cards → is_ready card ≡ true
-      → spelt (contested cid_bits (map cid_sender cards)) ≡ cid_number (low_from no_low cards).cid
+      → (cid : List ℕ) × (low_from no_low cards ≡ low_by cid) × (spelt (contested cid_bits (map cid_sender cards)) ≡ cid_number cid)
   unfolding cid_number no_low
   shown_low card m r =
-      let low : Low = low_from no_low cards in
       let least = low_least no_low cards card m r in
-      let own : Owned low cards =
-      ⊎_elim (λ e. absurd (false≢true (sym (none e) ∙ least.0))) (λ w. w) (low_from_lem no_low cards) in
+      let own : Owned (low_from no_low cards) cards =
+      ⊎_elim (λ e. absurd (subst (λ (l : Low). AtMost l (cid_number (cid_of card))) e least)) (λ w. w) (low_from_lem no_low cards) in
       let small = line_is_smallest cid_bits (map cid_sender cards) cid_bitwise (cid_sender own.0) (Memᴰ.map cid_sender own.1) own.2 in
       let from = Memᴰ.of_map cid_sender cards small.0.1 in
       let up = small.1 (cid_sender own.0) (Memᴰ.map cid_sender own.1) own.2 in
-      let down = (low_least no_low cards from.0 from.1 (ap (λ (s : Sender). s.on) from.2 ∙ small.0.2)).1 in
+      let down = subst (λ (l : Low). AtMost l (cid_number (cid_of from.0))) own.3
+      (low_least no_low cards from.0 from.1 (ap (λ (s : Sender). s.on) from.2 ∙ small.0.2)) in
       let shown : spelt (contested cid_bits (map cid_sender cards)) ≡ spelt (bits (cid_of from.0)) =
       ap spelt (sym (ap (λ (s : Sender). s.bits) from.2 ∙ small.0.3)) in
-      let found : spelt (bits low.cid) ≡ spelt (bits (cid_of own.0)) = ap (λ (l : List ℕ). spelt (bits l)) own.3 in
-      omega arith
-    where
-      none : low_from no_low cards ≡ no_low → (low_from no_low cards).any ≡ false
-      none e = ap (λ (l : Low). l.any) e
+      (cid_of own.0, own.3, omega arith)
 
   pub holders : (card : Card) → Memᴰ card cards → holds_low (low_from no_low cards) card ≡ wins_line cards card
   unfolding holds_low is_low cid_number
   holders card m =
-      let low : Low = low_from no_low cards in
       let w = winners cid_bits (map cid_sender cards) cid_bitwise (cid_sender card) (Memᴰ.map cid_sender m) in
       let lost : (wins_line cards card ≡ true → ⊥) → wins_line cards card ≡ false =
       λ no. cases (wins_line cards card) (λ t. absurd (no t)) (λ t. t) in
       cases (is_ready card)
       (λ r.
-      let shown = shown_low card m r in
-      let any = (low_least no_low cards card m r).0 in
-      by_order_lem (cid_of card) low.cid
-      (λ h o. let left : holds_low low card ≡ false = rw (any, r, o) in left ∙ sym (lost (λ t. let e = (w.0 t).1 in omega arith)))
-      (λ h o. let left : holds_low low card ≡ true = rw (any, r, o) in left ∙ sym (w.1 (r, h ∙ sym shown)))
-      (λ h o. let left : holds_low low card ≡ false = rw (any, r, o) in left ∙ sym (lost (λ t. let e = (w.0 t).1 in omega arith))))
+      let low = shown_low card m r in
+      by_order_lem (cid_of card) low.0
+      (λ h o.
+      let left : holds_low (low_from no_low cards) card ≡ false = rw (r, low.1, o) in left ∙ sym (lost (λ t. let e = (w.0 t).1 in omega (arith, low.2))))
+      (λ h o. let left : holds_low (low_from no_low cards) card ≡ true = rw (r, low.1, o) in left ∙ sym (w.1 (r, h ∙ sym low.2)))
+      (λ h o.
+      let left : holds_low (low_from no_low cards) card ≡ false = rw (r, low.1, o) in
+      left ∙ sym (lost (λ t. let e = (w.0 t).1 in omega (arith, low.2)))))
       (λ r.
-      let left : holds_low low card ≡ false = rw r in
+      let left : holds_low (low_from no_low cards) card ≡ false = rw r in
       left ∙ sym (lost (λ t. false≢true (sym r ∙ (w.0 t).0))))

@@ -35,7 +35,8 @@
 -- Assumes nothing.
 use mathlib.Core.Bool.{true, false}
 use mathlib.Core.List.{List, [], ◌∷◌, ◌++◌}
-use mathlib.Core.Path.{◌≡◌, ap}
+use mathlib.Core.Path.{◌≡◌, refl, ap}
+use Rattle.base.proofs.Cases.{clash}
 use Prim.Native.Nat.{ℕ, ◌-◌}
 use native.Mathlib.Omega.{arith}
 use lib.ListN.{length, get_or, replicate}
@@ -63,9 +64,8 @@ use Rattle.tags.specs.Tagging.{no_tags}
 use Rattle.wire.specs.Frames.{crc7_of, sealed, fields_of, framing_of}
 use Rattle.wire.specs.Responses.{r1_frame, r2_frame, r3_frame}
 use Rattle.bus.specs.Bus.{with_cards, empty_bus, added_to, taken_from, put_into, command_on, command_at, card_after, frame_from, any_ready, longest_of, cid_line, and_line, line_of, padded, command_for, bus_frame}
-use Rattle.bus.specs.declared.Adding.TheVariants.{Place}
 use Rattle.bus.specs.declared.Bus.{Bus}
-use Rattle.bus.specs.declared.Shown.TheVariants.{Line, Silent, Refused}
+use Rattle.std.specs.Prelude.{Ok, Err, Some, None}
 
 -- a card of address 1 with a state, an OCR and a CID that ends in this byte
 abbrev card : State → ℕ → ℕ → Card
@@ -102,7 +102,7 @@ empty_holds_idle : (at empty_bus 0).link.state ≡ Idle → ⊥
 unfolding empty_bus refused_make
 empty_holds_idle e = let z : ◌≡◌ {A = ℕ} 0 1 = cc in omega arith
 
-thirty_first_placed : (added_to full (ready 1)).adding ≡ Place 30 → ⊥
+thirty_first_placed : (added_to full (ready 1)).adding ≡ Ok 30 → ⊥
 unfolding added_to
 thirty_first_placed e = let z : ◌≡◌ {A = ℕ} 0 1 = cc in omega arith
 
@@ -110,17 +110,17 @@ thirty_first_counted : (added_to full (ready 1)).bus.count ≡ 31 → ⊥
 unfolding added_to
 thirty_first_counted e = omega arith
 
-second_in_front : (added_to (bus (ready 1 ∷ [])) (ready 2)).adding ≡ Place 0 → ⊥
+second_in_front : (added_to (bus (ready 1 ∷ [])) (ready 2)).adding ≡ Ok 0 → ⊥
 unfolding added_to
 second_in_front e = let z : ◌≡◌ {A = ℕ} 1 0 = cc in omega arith
 
-untaken_found : (taken_from (bus (ready 1 ∷ [])) 1).found ≡ true → ⊥
+untaken_found : (card : Card) → taken_from (bus (ready 1 ∷ [])) 1 ≡ Some card → ⊥
 unfolding taken_from
-untaken_found e = let z : ◌≡◌ {A = ℕ} 0 1 = cc in omega arith
+untaken_found card e = clash cc
 
-first_for_second : (taken_from (bus (ready 1 ∷ ready 2 ∷ [])) 1).card.registers.cid ≡ (ready 1).registers.cid → ⊥
+first_for_second : (card : Card) × ((taken_from (bus (ready 1 ∷ ready 2 ∷ [])) 1 ≡ Some card) × (card.registers.cid ≡ (ready 1).registers.cid → ⊥))
 unfolding taken_from
-first_for_second e = let z : ◌≡◌ {A = ℕ} 2 1 = ap (λ (l : List ℕ). get_or l 15 0) e in omega arith
+first_for_second = (ready 2, (refl, λ e. let z : ◌≡◌ {A = ℕ} 2 1 = ap (λ (l : List ℕ). get_or l 15 0) e in omega arith))
 
 put_adds : (put_into (bus (ready 1 ∷ [])) 1 (ready 2)).count ≡ 2 → ⊥
 unfolding put_into
@@ -156,11 +156,11 @@ after a b frame = (bus_frame (bus (a ∷ b ∷ [])) frame).bus
 abbrev shows : Card → Card → List ℕ → List ℕ
 shows a b frame = (bus_frame (bus (a ∷ b ∷ [])) frame).line
 
-damage_before_empty : (bus_frame empty_bus damaged).shown ≡ Refused (by 3) → ⊥
+damage_before_empty : (bus_frame empty_bus damaged).shown ≡ Err (by 3) → ⊥
 unfolding bus_frame empty_bus framing_of fields_of crc7_of remainder divide bits
 damage_before_empty e = let z : ◌≡◌ {A = ℕ} 0 1 = cc in omega arith
 
-data_command_taken : (bus_frame (bus (ready 1 ∷ [])) cmd12).shown ≡ Silent → ⊥
+data_command_taken : (bus_frame (bus (ready 1 ∷ [])) cmd12).shown ≡ Ok None → ⊥
 unfolding bus_frame framing_of fields_of crc7_of remainder divide bits command_for
 data_command_taken e = let z : ◌≡◌ {A = ℕ} 0 1 = cc in omega arith
 
@@ -196,7 +196,7 @@ line_ored : get_or (shows (card Idle 0x00C00000 1) (card Idle 0x00300000 2) cmd1
 unfolding bus_frame framing_of fields_of crc7_of remainder divide bits command_for with_cards command_on command_at card_after frame_from line_of cid_line and_line any_ready longest_of padded line contested wins together command_of row_of move_of taken_of acted_of after_checks judged_of tagging_of argument_fault reset_told obeyed awaited_by change_of response_of answered class_of word_of sent_bytes r1_frame r2_frame r3_frame sealed holding refused_make
 line_ored e = omega arith
 
-silence_shown : (bus_frame (bus (card Stby 0x00FF8000 1 ∷ [])) cmd2).shown ≡ Line 17 → ⊥
+silence_shown : (bus_frame (bus (card Stby 0x00FF8000 1 ∷ [])) cmd2).shown ≡ Ok (Some 17) → ⊥
 unfolding bus_frame framing_of fields_of crc7_of remainder divide bits command_for with_cards command_on command_at card_after frame_from line_of cid_line and_line any_ready longest_of padded line contested wins together command_of row_of move_of taken_of acted_of after_checks judged_of tagging_of argument_fault reset_told obeyed awaited_by change_of response_of answered class_of word_of sent_bytes r1_frame r2_frame r3_frame sealed holding refused_make
 silence_shown e = let z : ◌≡◌ {A = ℕ} 0 1 = cc in omega arith
 
@@ -212,7 +212,7 @@ damage_told_spi : (at (after (in_spi (card Tran 0x00FF8000 1)) (ready 2) damaged
 unfolding bus_frame framing_of fields_of crc7_of remainder divide bits with_cards damaged_link refused_make
 damage_told_spi e = omega arith
 
-spi_ready_sends : (bus_frame (bus (in_spi (ready 1) ∷ [])) cmd2).shown ≡ Line 17 → ⊥
+spi_ready_sends : (bus_frame (bus (in_spi (ready 1) ∷ [])) cmd2).shown ≡ Ok (Some 17) → ⊥
 unfolding bus_frame framing_of fields_of crc7_of remainder divide bits command_for with_cards command_on command_at card_after frame_from line_of cid_line and_line any_ready longest_of padded line contested wins together command_of row_of move_of taken_of acted_of after_checks judged_of tagging_of argument_fault reset_told obeyed awaited_by change_of response_of answered class_of word_of sent_bytes r1_frame r2_frame r3_frame sealed holding refused_make
 spi_ready_sends e = let z : ◌≡◌ {A = ℕ} 0 1 = cc in omega arith
 

@@ -1,6 +1,6 @@
 -- Document 01, "The shared line": a bus of up to 30 cards, and a frame for all of them. "at a bus 13, 1, 2, 3, 14".
 -- Assumes nothing.
-use Rattle.std.specs.Prelude.{Bool, true, false, not, ◌&&◌, ◌||◌, List, [], ◌∷◌, ◌++◌, map, ℕ, suc, ◌*◌, ◌-◌, min, max, eqb, leb, ltb, length, take, drop, get_or, set, replicate}
+use Rattle.std.specs.Prelude.{Bool, true, false, not, ◌&&◌, ◌||◌, List, [], ◌∷◌, ◌++◌, map, ℕ, suc, ◌*◌, ◌-◌, min, max, eqb, leb, ltb, length, take, drop, get_or, set, replicate, Result, Option, Ok, Err, Some, None}
 use Rattle.base.specs.Choice.{pick, unless}
 use Rattle.base.specs.Refusals.{by}
 use Rattle.base.specs.declared.Refusal.{Refusal}
@@ -16,15 +16,10 @@ use Rattle.card_record.specs.Record.{with_link}
 use Rattle.card_record.specs.declared.Card.{Card}
 use Rattle.states.specs.States.{column_of, column_number}
 use Rattle.wire.specs.Frames.{framing_of}
-use Rattle.wire.specs.declared.Framing.{Framing}
-use Rattle.wire.specs.declared.Framing.TheVariants.{Framed, Unframed}
 use Rattle.bus.specs.declared.Added.{Added}
-use Rattle.bus.specs.declared.Adding.TheVariants.{Place, Refused as NotAdded}
 use Rattle.bus.specs.declared.Bus.{Bus}
 use Rattle.bus.specs.declared.Framed.{Framed as Answered}
-use Rattle.bus.specs.declared.Shown.{Shown}
-use Rattle.bus.specs.declared.Shown.TheVariants.{Line, Silent, Refused}
-use Rattle.bus.specs.declared.Taken.{Taken}
+use Rattle.wire.specs.declared.Fields.{Fields}
 
 -- "a bus of up to 30 such cards"
 abbrev pub most : ℕ
@@ -48,14 +43,13 @@ empty_bus = record { cards = replicate most refused_make; count = 0 }
 -- 13: "or a 31st added"
 unfoldable pub added_to : Bus → Card → Added
 added_to bus card =
-    unless (ltb (count_of bus) most) (record { bus = bus; adding = NotAdded (by 13) })
-    (record { bus = record { cards = set bus.cards (count_of bus) card; count = suc (count_of bus) }; adding = Place (count_of bus) })
+    unless (ltb (count_of bus) most) (record { bus = bus; adding = Err (by 13) })
+    (record { bus = record { cards = set bus.cards (count_of bus) card; count = suc (count_of bus) }; adding = Ok (count_of bus) })
 
 -- a card "in its own call", taken out of its place: there may be none
-unfoldable pub taken_from : Bus → ℕ → Taken
+unfoldable pub taken_from : Bus → ℕ → Option Card
 taken_from bus place =
-    unless (ltb place (count_of bus)) (record { card = refused_make; found = false })
-    (record { card = get_or bus.cards place refused_make; found = true })
+    unless (ltb place (count_of bus)) None (Some (get_or bus.cards place refused_make))
 
 -- and put back into it
 unfoldable pub put_into : Bus → ℕ → Card → Bus
@@ -113,9 +107,9 @@ unfoldable pub line_of : List Card → ℕ → ℕ → List ℕ
 line_of cards index argument = pick (eqb index 2) (cid_line cards) (and_line (map (frame_from cards index argument) cards))
 
 -- the bytes as an answer of at most 17: how many there are, and zeros behind them
-abbrev pub shown_of : List ℕ → Shown
-shown_of [] = Silent
-shown_of (b ∷ bs) = Line (suc (length bs))
+abbrev pub shown_of : List ℕ → Result (Option ℕ) Refusal
+shown_of [] = Ok None
+shown_of (b ∷ bs) = Ok (Some (suc (length bs)))
 
 unfoldable pub padded : List ℕ → List ℕ
 padded line = line ++ replicate (17 - length line) 0
@@ -126,7 +120,7 @@ bus_indices = 0 ∷ 1 ∷ 2 ∷ 3 ∷ 4 ∷ 7 ∷ 9 ∷ 10 ∷ 13 ∷ 15 ∷ []
 
 -- a frame that is refused: "3 sets bit 23 .. on a bus of every card, unless Inactive", and of none in SPI
 abbrev pub refused_on : Bus → Refusal → Answered
-refused_on bus refusal = record { bus = bus; shown = Refused refusal; line = replicate 17 0 }
+refused_on bus refusal = record { bus = bus; shown = Err refusal; line = replicate 17 0 }
 
 abbrev pub damaged_card : Card → Card
 damaged_card card = pick card.mode.spi card (with_link card (damaged_link card.link))
@@ -141,10 +135,10 @@ command_for bus index argument =
       line = padded (line_of (cards_of bus) index argument);
     })
 
-abbrev pub framed_on : Bus → Framing → Answered
-framed_on bus (Unframed refusal) = refused_on bus refusal
-framed_on bus (Framed index argument right) =
-    unless right (refused_on (with_cards bus (map damaged_card (cards_of bus))) (by 3)) (command_for bus index argument)
+abbrev pub framed_on : Bus → Result Fields Refusal → Answered
+framed_on bus (Err refusal) = refused_on bus refusal
+framed_on bus (Ok fields) =
+    unless fields.crc_right (refused_on (with_cards bus (map damaged_card (cards_of bus))) (by 3)) (command_for bus fields.index fields.argument)
 
 -- a frame for all cards. 13: "bus of 0 cards asked"
 unfoldable pub bus_frame : Bus → List ℕ → Answered

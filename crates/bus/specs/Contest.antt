@@ -4,8 +4,7 @@
 use Rattle.std.specs.Prelude.{◌≡◌, Bool, false, List, [], ◌∷◌, ℕ, ◌<◌, eqb, length, get_or}
 use Rattle.base.specs.Choice.{unless}
 use Rattle.crc.specs.Bits.{Below}
-use Rattle.shared_line.specs.Lowest.{no_low, lower_of, is_low}
-use Rattle.shared_line.specs.declared.Low.{Low}
+use Rattle.shared_line.specs.Lowest.{Low, no_low, lower_of, is_low}
 use Rattle.card_record.specs.declared.Card.{Card}
 use Rattle.bus.specs.Bus.{is_ready, count_of, cards_of}
 use Rattle.bus.specs.declared.Bus.{Bus}

@@ -1,7 +1,7 @@
 -- A command for all cards as code carries it out: each takes it in its turn, and what it sends is ANDed into the line. That this is what
 -- the line shows is proved (`line_is_heard` and `told_is_command` in proofs/Telling).
 -- Assumes nothing.
-use Rattle.std.specs.Prelude.{Bool, List, [], ◌∷◌, map, ℕ, max, leb, length, take, replicate}
+use Rattle.std.specs.Prelude.{Bool, List, [], ◌∷◌, map, ℕ, max, leb, length, take, replicate, Result, Ok, Err}
 use Rattle.base.specs.Choice.{pick, unless}
 use Rattle.base.specs.Refusals.{by}
 use Rattle.card_record.specs.Sending.{sent_bytes}
@@ -14,8 +14,6 @@ use Rattle.moves.specs.declared.Row.TheVariants.{Unsupported}
 use Rattle.card_record.specs.Record.{with_link}
 use Rattle.card_record.specs.declared.Card.{Card}
 use Rattle.wire.specs.Frames.{framing_of}
-use Rattle.wire.specs.declared.Framing.{Framing}
-use Rattle.wire.specs.declared.Framing.TheVariants.{Framed, Unframed}
 use Rattle.bus.specs.Bus.{cards_of, with_cards, command_on, card_after, line_of, shown_of, padded, bus_indices}
 use Rattle.bus.specs.declared.Asked.{Asked}
 use Rattle.bus.specs.declared.Asked.TheVariants.{Command, Damaged, Refused}
@@ -23,12 +21,14 @@ use Rattle.bus.specs.declared.Bus.{Bus}
 use Rattle.bus.specs.declared.Framed.{Framed as Answered}
 use Rattle.bus.specs.declared.Heard.{Heard}
 use Rattle.bus.specs.declared.Turned.{Turned}
+use Rattle.base.specs.declared.Refusal.{Refusal}
+use Rattle.wire.specs.declared.Fields.{Fields}
 
 -- what a frame asks of a bus of so many cards: "at a bus 13, 1, 2, 3, 14", and else a command of all its cards
-abbrev pub framing_asked : Framing → Asked
-framing_asked (Unframed refusal) = Refused refusal
-framing_asked (Framed index argument right) =
-    unless right Damaged (unless (among index bus_indices) (Refused (by 14)) (Command index argument))
+abbrev pub framing_asked : Result Fields Refusal → Asked
+framing_asked (Err refusal) = Refused refusal
+framing_asked (Ok fields) =
+    unless fields.crc_right Damaged (unless (among fields.index bus_indices) (Refused (by 14)) (Command fields.index fields.argument))
 
 unfoldable pub bus_asked : ℕ → List ℕ → Asked
 bus_asked count frame = unless (leb 1 count) (Refused (by 13)) (framing_asked (framing_of frame))

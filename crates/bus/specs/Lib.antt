@@ -1,3 +1,4 @@
 pub mod Bus
 pub mod Contest
 pub mod Hearing
+pub mod OnLine

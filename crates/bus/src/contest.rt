@@ -7,25 +7,20 @@ ghost use Rattle.shared_line.specs.Lowest.{is_low};
 
 use crate::{Bus, places};
 use card_record::Card;
-use shared_line::Low;
+use states::State;
 
 // Whether a card is Ready, and what its type says of its CID.
 fn is_ready(card: Card) -> bool
     ensures answer { result ≡ is_ready card }
     ensures bytes { Held card }
 {
-    if card.mode.spi {
-        return false;
-    }
-    let link = card.link;
-    let state = link.state;
-    let on = states::column_of(state);
-    states::number(on) == 1
+    !card.mode.spi && matches!(card.link.state, State::Ready)
 }
 
 // The smallest CID among the Ready cards, for CMD2 alone. What was found is made anew only where a
 // lower one comes, since it is copied.
-pub fn lowest(bus: Bus, index: u8) -> Low
+#[tactic(auto, unfolding(crate::specs::Contest::low_for))]
+pub fn lowest(bus: Bus, index: u8) -> Option<[u8; 16]>
     ensures answer { result ≡ low_for bus index }
     ensures bytes { HeldAll bus index }
 {
@@ -34,17 +29,14 @@ pub fn lowest(bus: Bus, index: u8) -> Low
     }
     let end = places(bus.count);
     let mut low = shared_line::nobody();
-    let mut i: usize = 0;
-    while i < end {
+    for i in 0..end {
         let card = bus.cards[i];
         if is_ready(card) {
-            let registers = card.registers;
-            let cid = registers.cid;
+            let cid = card.registers.cid;
             if shared_line::is_lower(low, cid) {
-                low = Low { any: true, cid };
+                low = Some(cid);
             }
         }
-        i += 1;
     }
     low
 }
@@ -54,17 +46,12 @@ pub fn lowest(bus: Bus, index: u8) -> Low
 pub fn contends(any: bool, card: Card) -> bool
     ensures { result ≡ (any && is_ready card) }
 {
-    if !any {
-        return false;
-    }
-    is_ready(card)
+    any && is_ready(card)
 }
 
 // Whether a card that contends holds the smallest CID.
-pub fn holds(low: Low, card: Card) -> bool
+pub fn holds(low: Option<[u8; 16]>, card: Card) -> bool
     ensures { result ≡ is_low low (cid_of card) }
 {
-    let registers = card.registers;
-    let cid = registers.cid;
-    shared_line::is_low(low, cid)
+    shared_line::is_low(low, card.registers.cid)
 }

@@ -2,7 +2,7 @@
 // and a card taken out of its place for its own calls and put back. The bus is lent no memory. Any
 // records and any count may come in, so no call has a `requires`.
 //
-// Offers: `Bus`, `empty`, `Added`, `add`; `Shown`, `Framed`, `frame`; `Taken`, `take`, `put`.
+// Offers: `Bus`, `empty`, `Added`, `add`; `Framed`, `frame`; `take`, `put`.
 #![tactic(auto)]
 
 mod contest;
@@ -15,45 +15,36 @@ use base::Refusal;
 use card_record::Card;
 use contest::{contends, holds, lowest};
 use hearing::{asked_of, decide, line_by, quiet, shown_by, turn};
+use std::marker::Model;
+use wire::Command;
 
 // The cards in the places from 0 on; a count over 30 reads as 30.
+// An array with a count, since there is no heap, and `count_of` and `cards_of` of specs/Bus.antt name both.
 #[derive(Clone, Copy)]
 pub struct Bus {
     pub cards: [Card; 30],
     pub count: usize,
 }
 
-// The place of an added card, or the refusal.
-#[derive(Clone, Copy)]
-pub enum Adding {
-    Place(usize),
-    Refused(Refusal),
-}
-
+// The bus after a card was to be added, and the card's place, or the refusal.
 #[derive(Clone, Copy)]
 pub struct Added {
     pub bus: Bus,
-    pub adding: Adding,
+    pub adding: Result<usize, Refusal>,
 }
 
-// What the line shows: so many bytes; nothing; or the refusal.
-#[derive(Clone, Copy)]
-pub enum Shown {
-    Line(usize),
-    Silent,
-    Refused(Refusal),
-}
-
-// What a frame leaves: the bus, what the line shows, and its bytes, zeros behind them.
+// What a frame leaves: the bus; how many bytes the line shows, if any, or the refusal; and its bytes,
+// zeros behind them.
 #[derive(Clone, Copy)]
 pub struct Framed {
     pub bus: Bus,
-    pub shown: Shown,
+    pub shown: Result<Option<usize>, Refusal>,
     pub line: [u8; 17],
 }
 
 // What a frame asks of a bus: a command of all its cards; that they are told of a wrong CRC7; or
 // nothing, and the refusal.
+// No Result: a wrong CRC7 is a refusal that changes cards, so neither a value nor an error alone.
 #[derive(Clone, Copy)]
 pub enum Asked {
     Command { index: u8, argument: u32 },
@@ -61,18 +52,26 @@ pub enum Asked {
     Refused(Refusal),
 }
 
-// A card, and whether the place was taken.
-#[derive(Clone, Copy)]
-pub struct Taken {
-    pub card: Card,
-    pub found: bool,
-}
-
-// What the line holds of the frames so far: their AND, and the length of the longest.
+// What the line holds of the frames so far: their AND, and how many bytes the longest has, which is
+// no more than the line.
+// An array with a length, since there is no heap.
 #[derive(Clone, Copy)]
 pub struct Heard {
-    pub line: [u8; 17],
-    pub length: usize,
+    line: [u8; 17],
+    longest: usize,
+}
+
+impl Model for Heard {
+    ghost use Rattle.std.specs.Prelude.{◌≤◌};
+    ghost use Rattle.bus.specs.OnLine.{OnLine};
+
+    ghost Value = { OnLine };
+
+    ghost view = { λ h. record { line = h.line; length = h.longest } };
+
+    ghost invariant = { λ h. h.longest ≤ 17 };
+
+    ghost inverse = { λ v. record { line = v.line; longest = v.length } };
 }
 
 // A card after its turn, and what the line then holds.
@@ -86,13 +85,11 @@ pub struct Turned {
 fn places(count: usize) -> usize
     ensures { result ≡ min count most }
 {
-    if count < 30 {
-        return count;
-    }
-    30
+    count.min(30)
 }
 
 // A bus with no card.
+#[tactic(auto, unfolding(crate::specs::Bus::empty_bus))]
 pub fn empty() -> Bus
     ensures answer { result ≡ empty_bus }
 {
@@ -102,6 +99,7 @@ pub fn empty() -> Bus
 }
 
 // A card in the next place: 13 where there is none.
+#[tactic(auto, unfolding(crate::specs::Bus::added_to))]
 pub fn add(bus: Bus, card: Card) -> Added
     ensures answer { result ≡ added_to bus card }
 {
@@ -109,7 +107,7 @@ pub fn add(bus: Bus, card: Card) -> Added
     if 30 <= place {
         return Added {
             bus,
-            adding: Adding::Refused(Refusal::BusCards),
+            adding: Err(Refusal::BusCards),
         };
     }
     let mut next = bus;
@@ -117,26 +115,23 @@ pub fn add(bus: Bus, card: Card) -> Added
     next.count = place + 1;
     Added {
         bus: next,
-        adding: Adding::Place(place),
+        adding: Ok(place),
     }
 }
 
-// The card in a place, for its own calls.
-pub fn take(bus: Bus, place: usize) -> Taken
+// The card in a place, for its own calls, if the place is taken.
+pub fn take(bus: Bus, place: usize) -> Option<Card>
     ensures answer { result ≡ taken_from bus place }
 {
     let end = places(bus.count);
     if end <= place {
-        return Taken {
-            card: card_record::refused_make(),
-            found: false,
-        };
+        return None;
     }
-    let card = bus.cards[place];
-    Taken { card, found: true }
+    Some(bus.cards[place])
 }
 
 // A card back into a place that is taken.
+#[tactic(auto, unfolding(crate::specs::Bus::put_into))]
 pub fn put(bus: Bus, place: usize, card: Card) -> Bus
     ensures answer { result ≡ put_into bus place card }
 {
@@ -156,7 +151,7 @@ fn refuse(bus: Bus, refusal: Refusal) -> Framed
     let line = [0; 17];
     Framed {
         bus,
-        shown: Shown::Refused(refusal),
+        shown: Err(refusal),
         line,
     }
 }
@@ -180,12 +175,10 @@ fn damage(bus: Bus) -> Bus
 {
     let end = places(bus.count);
     let mut next = bus;
-    let mut i: usize = 0;
-    while i < end {
+    for i in 0..end {
         let card = next.cards[i];
         let told = damaged(card);
         next.cards[i] = told;
-        i += 1;
     }
     next
 }
@@ -203,22 +196,23 @@ pub fn frame(bus: Bus, frame: &[u8]) -> Framed
         Asked::Refused(refusal) => return refuse(bus, refusal),
         Asked::Damaged => return refuse(damage(bus), Refusal::FrameCrc),
         Asked::Command { index, argument } => {
+            let command = Command { index, argument };
             let low = lowest(bus, index);
             let mut next = bus;
             let mut heard = quiet();
             for i in 0..end {
                 let seen = next.cards[i];
                 let mut won = false;
-                if contends(low.any, seen) {
+                if contends(low.is_some(), seen) {
                     if !holds(low, seen) {
                         continue;
                     }
                     won = true;
                 }
-                let decided = decide(seen, won, index, argument);
+                let decided = decide(seen, won, command);
                 if !command::leaves_alone(decided) {
                     let card = next.cards[i];
-                    let turned = turn(heard, card, won, index, argument, decided);
+                    let turned = turn(heard, card, won, command, decided);
                     let after = turned.card;
                     next.cards[i] = after;
                     heard = turned.heard;

@@ -16,15 +16,15 @@ use Rattle.busline_records.proofs.Steps.{steady}
 use Rattle.busline_records.specs.Printing.{roomy}
 use Rattle.busline_records.specs.Transcript.{record_step, piece_of, said_by}
 use Rattle.busline_records.specs.declared.Progress.{Progress}
-use Rattle.busline_records.specs.declared.Said.{Said}
+use Rattle.playing.specs.declared.Said.{Said}
 use Rattle.busline_player.specs.Turn.{turned_by}
 use Rattle.busline_player.specs.declared.Turned.{Turned}
 
-abbrev turned_as : Said → ℕ → Turned
+abbrev turned_as : Said Progress → ℕ → Turned
 turned_as said kept = record { progress = said.progress; kept = kept; wrote = said.wrote; then = said.then }
 
 -- b is the buffer, of which the first n bytes are at hand: the script; r are those that were moved
-module _ (w : Progress) (b script : List ℕ) (n room r : ℕ) (said : Said) (ep : script ≡ take n b)
+module _ (w : Progress) (b script : List ℕ) (n room r : ℕ) (said : Said Progress) (ep : script ≡ take n b)
     (es : said ≡ said_by (piece_of w script room) (length script)) (er : r ≡ min n (length b) - said.used) where
   here : said ≡ said_by (piece_of w (take n b) room) (length (take n b))
   here = es ∙ ap (λ (l : List ℕ). said_by (piece_of w l room) (length l)) ep
@@ -32,10 +32,10 @@ module _ (w : Progress) (b script : List ℕ) (n room r : ℕ) (said : Said) (ep
   -- what is left over is at the end of what was at hand
   over : (length (piece_of w (take n b) room).left ≤ length (take n b)) × (drop said.used (take n b) ≡ (piece_of w (take n b) room).left)
   unfolding piece_of
-  over = let e = ends record_step steady (room / roomy) w (take n b) in rw (ap (λ (x : Said). x.used) here) e
+  over = let e = ends record_step steady (room / roomy) w (take n b) in rw (ap (λ (x : Said Progress). x.used) here) e
 
   long : r ≡ length (piece_of w (take n b) room).left
-  long = omega (arith, over.0, length-take n b, ap (λ (x : Said). x.used) here)
+  long = omega (arith, over.0, length-take n b, ap (λ (x : Said Progress). x.used) here)
 
   pub answer : turned_as said r ≡ turned_by (piece_of w (take n b) room)
   answer = ap₂ turned_as here long
@@ -49,7 +49,7 @@ module _ (w : Progress) (b script : List ℕ) (n room r : ℕ) (said : Said) (ep
       let rest = drop said.used t in
       let l = length-take n b in
       let d = length-drop said.used t in
-      let u = ap (λ (x : Said). x.used) here in
+      let u = ap (λ (x : Said Progress). x.used) here in
       let m : length rest ≡ r = omega (arith, over.0) in
       let moved : take r (drop said.used b) ≡ rest =
       ap (λ (x : List ℕ). take r (drop said.used x)) (sym (take-append-drop n b))
@@ -61,6 +61,6 @@ module _ (w : Progress) (b script : List ℕ) (n room r : ℕ) (said : Said) (ep
   pub moved_over : (after : List ℕ) → after ≡ kept_of said.used r b → after ≡ kept_of (length (take n b) - r) r b
   moved_over after ea =
       let used : said.used ≡ length (take n b) - r =
-      ap (λ (x : Said). x.used) here ∙ ap (λ (k : ℕ). length (take n b) - k) (sym long)
+      ap (λ (x : Said Progress). x.used) here ∙ ap (λ (k : ℕ). length (take n b) - k) (sym long)
       in
       ea ∙ ap (λ (k : ℕ). kept_of k r b) used

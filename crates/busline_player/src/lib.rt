@@ -3,8 +3,10 @@
 // of the buffer, behind which more is read. What is handed to the write call is promised here; that
 // it arrives is the operating system's.
 //
-// Offers: `Turned`, `advance`.
+// Offers: `Turned`, `advance`; `BusPlayer`.
 #![tactic(auto)]
+
+mod player;
 
 ghost use Rattle.std.specs.Prelude.{◌≡◌, ◌++◌, ◌-◌, length, take, drop};
 ghost use Rattle.busline_records.specs.Transcript.{piece_of};
@@ -12,6 +14,7 @@ ghost use Rattle.busline_player.specs.Turn.{turned_by};
 ghost use Rattle.playing.specs.Playing.{kept_of};
 
 use busline_records::Progress;
+pub use player::BusPlayer;
 use playing::{Then, keep};
 use text::parts::part;
 
@@ -36,12 +39,10 @@ pub fn advance(progress: Progress, buffer: &mut [u8], kept: usize, out: &mut [u8
     let script = part(buffer, 0, kept);
     let said = busline_records::play(progress, script, out);
     let left = keep(buffer, said.used, kept);
-    let next = said.progress;
-    let then = said.then;
     Turned {
-        progress: next,
+        progress: said.progress,
         kept: left,
         wrote: said.wrote,
-        then,
+        then: said.then,
     }
 }

@@ -17,12 +17,12 @@ use Rattle.base.specs.Output.{copied}
 use Rattle.base.proofs.Copying.{copied_length}
 use Rattle.card_record.specs.Making.{password_made, made_of}
 use Rattle.card_record.specs.declared.Made.{Made}
-use Rattle.card_record.specs.declared.Making.TheVariants.{Done}
 use Rattle.store.specs.Map.{entries_right}
 use Rattle.wire.specs.Frames.{crc7_of}
 use Rattle.wire.specs.Responses.{last_byte, register_right}
 use Rattle.busline_records.specs.Cards.{dock_csd, made_with, card_made, dock_card}
 use Rattle.busline_records.specs.Reading.{cid_body, register_of, identifier_of}
+use Rattle.std.specs.Prelude.{Ok}
 
 pub register_right_lem : (fifteen : List ℕ) → length fifteen ≡ 15 → register_right (register_of fifteen) ≡ true
 unfolding register_right register_of
@@ -37,7 +37,7 @@ csd_right : register_right dock_csd ≡ true
 unfolding register_right last_byte crc7_of remainder divide bits
 csd_right = refl
 
-pub make_done : (cid : List ℕ) → register_right cid ≡ true → made_with cid ≡ record { card = dock_card cid; making = Done }
+pub make_done : (cid : List ℕ) → register_right cid ≡ true → made_with cid ≡ record { card = dock_card cid; making = Ok tt }
 unfolding made_with made_of password_made lock_made_of powered_of stored holding entries_right dock_card
 make_done cid right = simp (right, csd_right)
 

@@ -33,7 +33,7 @@ use Rattle.busline_records.specs.Transcript.{step_by, record_step, piece_of, sai
 use Rattle.busline_records.specs.declared.Asked.{Asked}
 use Rattle.busline_records.specs.declared.Asked.TheVariants.{Card, Frame, BadKind, More}
 use Rattle.busline_records.specs.declared.Progress.{Progress}
-use Rattle.busline_records.specs.declared.Said.{Said}
+use Rattle.playing.specs.declared.Said.{Said}
 
 asked_wrote : (w : Progress) (asked : Asked) (s : List ℕ) → (asked_said w asked s).wrote ≡ length (asked_text w asked s)
 unfolding asked_said card_said frame_said asked_text
@@ -50,7 +50,7 @@ wrote w s room =
     (λ (t : leb roomy room ≡ false). rw t)
 
 -- rest is the part of the script that was read, part that of the output that was lent
-module _ (w : Progress) (s rest o part : List ℕ) (at from : ℕ) (said : Said) (er : rest ≡ take (length s) (drop at s))
+module _ (w : Progress) (s rest o part : List ℕ) (at from : ℕ) (said : Said Progress) (er : rest ≡ take (length s) (drop at s))
     (ep : part ≡ take (length o - from) (drop from o)) (es : said ≡ said_of w rest (length part)) where
   rest_whole : rest ≡ drop at s
   rest_whole = er ∙ take_all (length s) (drop at s) (omega (arith, length-drop at s))
@@ -69,7 +69,7 @@ module _ (w : Progress) (s rest o part : List ℕ) (at from : ℕ) (said : Said)
       → q ≡ take from o ++ (p ++ drop (length o - from) (drop from o)) → Wrote o q from (from + said.wrote) (text_of w (drop at s) (length o - from))
   line_at p q inside e el eq =
       let text = text_of w rest (length part) in
-      let n : said.wrote ≡ length text = ap (λ (x : Said). x.wrote) es ∙ wrote w rest (length part) in
+      let n : said.wrote ≡ length text = ap (λ (x : Said Progress). x.wrote) es ∙ wrote w rest (length part) in
       let a = ap length e ∙ length-append text (drop said.wrote part) in
       let d = length-drop said.wrote part in
       let l = part_long in
@@ -96,17 +96,17 @@ asked_roomed w BadKind s e = clash cc
 asked_roomed w More s e = clash cc
 
 -- what `play` answers and leaves in the output o, of a script s
-abbrev pub Finished : Progress → List ℕ → List ℕ → Said → List ℕ → Type 0
+abbrev pub Finished : Progress → List ℕ → List ℕ → Said Progress → List ℕ → Type 0
 Finished w s o r after = (r ≡ said_by (piece_of w s (length o)) (length s)) × (after ≡ (piece_of w s (length o)).text ++ drop r.wrote o)
 
-finish : (w : Progress) (s o after : List ℕ) (played : Played Progress) (u n : ℕ) (r : Said) → played_in record_step (length o / roomy) w s ≡ played
+finish : (w : Progress) (s o after : List ℕ) (played : Played Progress) (u n : ℕ) (r : Said Progress) → played_in record_step (length o / roomy) w s ≡ played
     → Wrote o after 0 n played.text → u ≡ length s - length played.left → r ≡ left_at played.kept u n played.then → Finished w s o r after
 unfolding piece_of
 finish w s o after played u n r ep et eu er = (
   er ∙ ap₂ (λ (x y : ℕ). left_at played.kept x y played.then) eu (wrote_line et)
       ∙ ap (λ (p : Played Progress). said_by p (length s)) (sym ep),
   wrote_at et
-      ∙ ap₂ (λ (x : List ℕ) (k : ℕ). x ++ drop k o) (ap (λ (p : Played Progress). p.text) (sym ep)) (ap (λ (x : Said). x.wrote) (sym er)),
+      ∙ ap₂ (λ (x : List ℕ) (k : ℕ). x ++ drop k o) (ap (λ (p : Played Progress). p.text) (sym ep)) (ap (λ (x : Said Progress). x.wrote) (sym er)),
 )
 
 -- after i records of a script s: what is kept, how many bytes of it were used and of the output written; w is what was kept before, o the output
@@ -132,7 +132,7 @@ begin w s o lines =
 
 -- a turn
 module _ (w : Progress) (s o : List ℕ) (lines : ℕ) (kept : Progress) (used written : ℕ) (out : List ℕ) (i : ℕ)
-    (here : Here w s o lines kept used written out i) (more : i < lines) (room : lines * roomy ≤ length o) (said : Said) (after : List ℕ)
+    (here : Here w s o lines kept used written out i) (more : i < lines) (room : lines * roomy ≤ length o) (said : Said Progress) (after : List ℕ)
     (es : said ≡ said_of kept (drop used s) (length out - written))
     (et : Wrote out after written (written + said.wrote) (text_of kept (drop used s) (length out - written))) (long : said.wrote ≤ roomy) where
   roomed : leb roomy (length out - written) ≡ true
@@ -193,7 +193,7 @@ module _ (w : Progress) (s o : List ℕ) (lines : ℕ) (kept : Progress) (used w
         ∙ here.rest
         ∙ ap (λ (p : Played Progress). behind (take written out) p) (ap (λ (k : ℕ). played_in record_step k kept (drop used s)) count ∙ e)
 
-    pub over_stops : (r : Said) → said.then ≡ Stops → r ≡ left_at said.progress (length s) (written + said.wrote) Stops → Finished w s o r after
+    pub over_stops : (r : Said Progress) → said.then ≡ Stops → r ≡ left_at said.progress (length s) (written + said.wrote) Stops → Finished w s o r after
     over_stops r e er =
         let n = lines - (i + 1) in
         let rest = drop used s in
@@ -213,11 +213,11 @@ module _ (w : Progress) (s o : List ℕ) (lines : ℕ) (kept : Progress) (used w
     unfolding text_of
     line_here = rw roomed refl
 
-    pub over_waits : (r : Said) → said.then ≡ Waits → r ≡ left_at said.progress used (written + said.wrote) Waits → Finished w s o r after
+    pub over_waits : (r : Said Progress) → said.then ≡ Waits → r ≡ left_at said.progress used (written + said.wrote) Waits → Finished w s o r after
     over_waits r e er =
         let n = lines - (i + 1) in
         let rest = drop used s in
-        let idle = asked_idle kept (asked_of rest) rest (ap (λ (x : Said). x.then) (sym asked_here) ∙ e) in
+        let idle = asked_idle kept (asked_of rest) rest (ap (λ (x : Said Progress). x.then) (sym asked_here) ∙ e) in
         let none_said : said ≡ put_off kept Waits = asked_here ∙ idle.1 in
         let d = length-drop used s in
         let l = here.inside in
@@ -225,12 +225,12 @@ module _ (w : Progress) (s o : List ℕ) (lines : ℕ) (kept : Progress) (used w
         (played_as (unplayed kept rest Waits) (waits record_step n kept rest (then_of Waits e)))
         (wrote_as (ap (λ (x : List ℕ). take written out ++ x) (line_here ∙ idle.0)) text_on)
         (omega arith)
-        (er ∙ ap (λ (x : Said). left_at x.progress used (written + said.wrote) Waits) none_said)
+        (er ∙ ap (λ (x : Said Progress). left_at x.progress used (written + said.wrote) Waits) none_said)
 
-    pub over_full : (r : Said) → said.then ≡ NoRoom → Finished w s o r after
-    over_full r e = asked_roomed kept (asked_of (drop used s)) (drop used s) (ap (λ (x : Said). x.then) (sym asked_here) ∙ e)
+    pub over_full : (r : Said Progress) → said.then ≡ NoRoom → Finished w s o r after
+    over_full r e = asked_roomed kept (asked_of (drop used s)) (drop used s) (ap (λ (x : Said Progress). x.then) (sym asked_here) ∙ e)
 
-pub all : (w : Progress) (s o : List ℕ) (lines : ℕ) (kept : Progress) (used written : ℕ) (out : List ℕ) (i : ℕ) (r : Said)
+pub all : (w : Progress) (s o : List ℕ) (lines : ℕ) (kept : Progress) (used written : ℕ) (out : List ℕ) (i : ℕ) (r : Said Progress)
     → Here w s o lines kept used written out i → lines ≤ i → lines ≡ length o / roomy → r ≡ left_at kept used written NoRoom → Finished w s o r out
 all w s o lines kept used written out i r here h ends er =
     let t = here.turns in

@@ -27,8 +27,6 @@ use native.Mathlib.Omega.{arith}
 use lib.ListN.{length, take, get_or, replicate}
 use Rattle.base.specs.Refusals.{by}
 use Rattle.bus.specs.Bus.{empty_bus, bus_frame}
-use Rattle.bus.specs.declared.Adding.TheVariants.{Place}
-use Rattle.bus.specs.declared.Shown.TheVariants.{Line, Refused}
 use Rattle.crc.specs.Bits.{bits}
 use Rattle.crc.specs.Crc.{divide, remainder}
 use Rattle.text.specs.Lines.{number_text, hex_text, end_text, head_text, word_line, plain_line, named_line}
@@ -43,6 +41,7 @@ use Rattle.playing.specs.declared.Then.TheVariants.{Stops, NoRoom}
 use Rattle.busline_records.specs.Record.{fresh_progress, frame_text, frame_said, asked_text, asked_said, said_of}
 use Rattle.busline_records.specs.Transcript.{record_step, piece_of, transcript}
 use Rattle.busline_records.specs.declared.Asked.TheVariants.{Card, Frame, More}
+use Rattle.std.specs.Prelude.{Ok, Err, Some}
 
 cut_taken : asked_of (1 ∷ replicate 14 0) ≡ Card → ⊥
 unfolding asked_of
@@ -84,15 +83,15 @@ bus_silent : frame_text fresh_progress cmd0 ≡ ascii "1 silent\n" → ⊥
 unfolding fresh_progress empty_bus frame_text shown_text bus_frame word_line head_text end_text named_line number_text decimal_of digits_of
 bus_silent e = let d = ap (λ (l : List ℕ). get_or l 0 0) e in omega arith
 
-card_zero : added_text (Place 0) ≡ ascii "card 0\n" → ⊥
+card_zero : added_text (Ok 0) ≡ ascii "card 0\n" → ⊥
 unfolding named_line number_text decimal_of digits_of
 card_zero e = let d = ap (λ (l : List ℕ). get_or l 5 0) e in omega arith
 
-damaged_refused : shown_text 1 (Refused (by 3)) [] ≡ ascii "refused 3\n" → ⊥
+damaged_refused : shown_text 1 (Err (by 3)) [] ≡ ascii "refused 3\n" → ⊥
 unfolding shown_text word_line head_text end_text named_line number_text decimal_of digits_of
 damaged_refused e = let d = ap (λ (l : List ℕ). get_or l 0 0) e in omega arith
 
-long_line : length (shown_text 1 (Line 6) (replicate 17 0)) ≡ 42 → ⊥
+long_line : length (shown_text 1 (Ok (Some 6)) (replicate 17 0)) ≡ 42 → ⊥
 unfolding shown_text word_line head_text end_text hex_text hex_of decimal_of digits_of
 long_line e = omega arith
 

@@ -1,13 +1,9 @@
 -- Document 01, "The shared line": "It prints `card N` for the N-th card added, or `N line HEX` or `N silent` for frame N, or `refused R`."
 -- Assumes nothing.
-use Rattle.std.specs.Prelude.{Bool, List, [], ℕ, ◌+◌, eqb, leb, length, take}
+use Rattle.std.specs.Prelude.{Bool, List, [], ℕ, ◌+◌, eqb, leb, length, take, Result, Option, Ok, Err, Some, None}
 use Rattle.base.specs.Choice.{pick}
 use Rattle.base.specs.Refusals.{number_of}
 use Rattle.base.specs.declared.Refusal.{Refusal}
-use Rattle.bus.specs.declared.Adding.{Adding}
-use Rattle.bus.specs.declared.Adding.TheVariants.{Place, Refused as NotAdded}
-use Rattle.bus.specs.declared.Shown.{Shown}
-use Rattle.bus.specs.declared.Shown.TheVariants.{Line as Sent, Silent, Refused}
 use Rattle.text.specs.Lines.{word_line, plain_line, named_line, refusal_line}
 use Rattle.text.specs.Words.{bad_kind_word, cut_word, line_word, silent_word, card_word}
 
@@ -20,9 +16,9 @@ abbrev pub cut_text : List ℕ → List ℕ
 cut_text left = pick (eqb (length left) 0) [] (plain_line cut_word)
 
 -- "`card N` for the N-th card added": places count from 0, cards from 1
-abbrev pub added_text : Adding → List ℕ
-added_text (Place place) = named_line card_word (place + 1)
-added_text (NotAdded refusal) = refusal_line refusal
+abbrev pub added_text : Result ℕ Refusal → List ℕ
+added_text (Ok place) = named_line card_word (place + 1)
+added_text (Err refusal) = refusal_line refusal
 
 -- "Refusals 1, 2, 3 in a frame print silent"
 abbrev pub prints_silent : Refusal → Bool
@@ -35,10 +31,10 @@ abbrev pub refused_text : ℕ → Refusal → List ℕ
 refused_text count refusal = pick (prints_silent refusal) (silent_text count) (refusal_line refusal)
 
 -- "`N line HEX` or `N silent` for frame N, or `refused R`": of the 17 bytes that the bus answers, those that the line shows
-unfoldable pub shown_text : ℕ → Shown → List ℕ → List ℕ
-shown_text count (Sent n) line = word_line count line_word (take n line)
-shown_text count Silent line = silent_text count
-shown_text count (Refused refusal) line = refused_text count refusal
+unfoldable pub shown_text : ℕ → Result (Option ℕ) Refusal → List ℕ → List ℕ
+shown_text count (Ok (Some n)) line = word_line count line_word (take n line)
+shown_text count (Ok None) line = silent_text count
+shown_text count (Err refusal) line = refused_text count refusal
 
 -- room for the longest line
 abbrev pub roomy : ℕ

@@ -12,7 +12,7 @@ use Rattle.busline_records.specs.Printing.{bad_kind_text, added_text, shown_text
 use Rattle.busline_records.specs.Reading.{asked_of, frame_body}
 use Rattle.busline_records.specs.declared.Asked.{Asked}
 use Rattle.busline_records.specs.declared.Asked.TheVariants.{Card, Frame, BadKind, More}
-use Rattle.busline_records.specs.declared.Said.{Said}
+use Rattle.playing.specs.declared.Said.{Said}
 use Rattle.busline_records.specs.declared.Progress.{Progress}
 
 -- before a script: no card, and no frame yet
@@ -24,16 +24,16 @@ abbrev pub following : ℕ → ℕ
 following count = pick (ltb count 18446744073709551615) (count + 1) count
 
 -- what is answered of a record: one that is carried out, one at which the script stops, and one that has to wait
-abbrev pub left_at : Progress → ℕ → ℕ → Then → Said
+abbrev pub left_at : Progress → ℕ → ℕ → Then → Said Progress
 left_at w used wrote then = record { progress = w; used = used; wrote = wrote; then = then }
 
-abbrev pub gone_on : Progress → ℕ → List ℕ → Said
+abbrev pub gone_on : Progress → ℕ → List ℕ → Said Progress
 gone_on w used line = left_at w used (length line) Goes
 
-abbrev pub stopped_by : Progress → List ℕ → Said
+abbrev pub stopped_by : Progress → List ℕ → Said Progress
 stopped_by w line = left_at w 0 (length line) Stops
 
-abbrev pub put_off : Progress → Then → Said
+abbrev pub put_off : Progress → Then → Said Progress
 put_off w then = left_at w 0 0 then
 
 -- kind 01: the card is added; cards are not counted among the frames
@@ -43,7 +43,7 @@ added_by w s = added_to w.bus (card_made s)
 unfoldable pub card_text : Progress → List ℕ → List ℕ
 card_text w s = added_text (added_by w s).adding
 
-unfoldable pub card_said : Progress → List ℕ → Said
+unfoldable pub card_said : Progress → List ℕ → Said Progress
 card_said w s = gone_on (record { bus = (added_by w s).bus; count = w.count }) 16 (card_text w s)
 
 -- kind 02: a frame for all cards. "A refused frame still counts in N"
@@ -53,7 +53,7 @@ framed_by w s = bus_frame w.bus (frame_body s)
 unfoldable pub frame_text : Progress → List ℕ → List ℕ
 frame_text w s = shown_text (following w.count) (framed_by w s).shown (framed_by w s).line
 
-unfoldable pub frame_said : Progress → List ℕ → Said
+unfoldable pub frame_said : Progress → List ℕ → Said Progress
 frame_said w s = gone_on (record { bus = (framed_by w s).bus; count = following w.count }) 7 (frame_text w s)
 
 -- the line of a record that asks for this; what is kept, how much of the script was used and of the output written, and how the script
@@ -64,7 +64,7 @@ asked_text w Frame s = frame_text w s
 asked_text w BadKind s = bad_kind_text
 asked_text w More s = []
 
-unfoldable pub asked_said : Progress → Asked → List ℕ → Said
+unfoldable pub asked_said : Progress → Asked → List ℕ → Said Progress
 asked_said w Card s = card_said w s
 asked_said w Frame s = frame_said w s
 asked_said w BadKind s = stopped_by w bad_kind_text
@@ -74,5 +74,5 @@ asked_said w More s = put_off w Waits
 unfoldable pub text_of : Progress → List ℕ → ℕ → List ℕ
 text_of w s room = unless (leb roomy room) [] (asked_text w (asked_of s) s)
 
-unfoldable pub said_of : Progress → List ℕ → ℕ → Said
+unfoldable pub said_of : Progress → List ℕ → ℕ → Said Progress
 said_of w s room = unless (leb roomy room) (put_off w NoRoom) (asked_said w (asked_of s) s)

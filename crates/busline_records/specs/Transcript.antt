@@ -6,10 +6,10 @@ use Rattle.busline_records.specs.Printing.{cut_text, roomy}
 use Rattle.busline_records.specs.Reading.{asked_of}
 use Rattle.busline_records.specs.Record.{fresh_progress, asked_text, asked_said}
 use Rattle.busline_records.specs.declared.Progress.{Progress}
-use Rattle.busline_records.specs.declared.Said.{Said}
+use Rattle.playing.specs.declared.Said.{Said}
 
 -- one record, where there is room for its line
-abbrev pub step_by : List ℕ → Said → Step Progress
+abbrev pub step_by : List ℕ → Said Progress → Step Progress
 step_by line said = record { line = line; kept = said.progress; used = said.used; then = said.then }
 
 unfoldable pub record_step : Progress → List ℕ → Step Progress
@@ -20,7 +20,7 @@ unfoldable pub piece_of : Progress → List ℕ → ℕ → Played Progress
 piece_of w s room = played_in record_step (room / roomy) w s
 
 -- what is answered of a piece of so many bytes
-abbrev pub said_by : Played Progress → ℕ → Said
+abbrev pub said_by : Played Progress → ℕ → Said Progress
 said_by played bytes = record { progress = played.kept; used = bytes - length played.left; wrote = length played.text; then = played.then }
 
 -- a whole script, played to the end of the input

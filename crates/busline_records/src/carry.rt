@@ -1,26 +1,16 @@
 // What a record asks for, carried out.
-ghost use Rattle.std.specs.Prelude.{◌≡◌, ◌≤◌, length};
+ghost use Rattle.std.specs.Prelude.{◌≡◌, ◌≤◌};
 ghost use Rattle.busline_records.specs.Cards.{card_made};
 ghost use Rattle.busline_records.specs.Printing.{bad_kind_text, roomy};
-ghost use Rattle.busline_records.specs.Record.{following, stopped_by, put_off, card_text, card_said, frame_text, frame_said, asked_text, asked_said};
+ghost use Rattle.busline_records.specs.Record.{stopped_by, put_off, card_text, card_said, frame_text, frame_said, asked_text, asked_said};
 ghost use Rattle.text.specs.Writing.{Wrote};
 
 use crate::print::{added_line, bad_kind_line, shown_line};
 use crate::reading::identifier;
-use crate::{Asked, Progress, Said, left};
+use crate::{Asked, Progress, ROOMY, Said, left};
 use card_record::Card;
 use playing::Then;
 use text::parts::part;
-
-// The number of the next frame. Where a 64-bit number has no next it stays.
-fn next(count: u64) -> u64
-    ensures { result ≡ following count }
-{
-    if count < 18446744073709551615 {
-        return count + 1;
-    }
-    count
-}
 
 // A record that has to wait.
 pub fn put_off(progress: Progress, then: Then) -> Said
@@ -30,6 +20,7 @@ pub fn put_off(progress: Progress, then: Then) -> Said
 }
 
 // The card of a record of kind 01: lent one erased memory and a map of one entry.
+#[tactic(auto, unfolding(crate::specs::Cards::made_with, crate::specs::Cards::card_made))]
 fn card_of(script: &[u8]) -> Card
     ensures { result ≡ card_made script.now }
 {
@@ -41,8 +32,7 @@ fn card_of(script: &[u8]) -> Card
     made.card
 }
 
-fn stopped(progress: Progress, out: &mut [u8]) -> Said
-    requires { roomy ≤ length out.old }
+fn stopped(progress: Progress, out: &mut [u8; ROOMY]) -> Said
     ensures answer { result ≡ stopped_by progress bad_kind_text }
     ensures text { Wrote out.old out.new 0 result.wrote bad_kind_text }
     ensures short { result.wrote ≤ roomy }
@@ -51,15 +41,13 @@ fn stopped(progress: Progress, out: &mut [u8]) -> Said
     left(progress, 0, wrote, Then::Stops)
 }
 
-fn added(progress: Progress, script: &[u8], out: &mut [u8]) -> Said
-    requires { roomy ≤ length out.old }
+fn added(progress: Progress, script: &[u8], out: &mut [u8; ROOMY]) -> Said
     ensures answer { result ≡ card_said progress script.now }
     ensures text { Wrote out.old out.new 0 result.wrote (card_text progress script.now) }
     ensures short { result.wrote ≤ roomy }
 {
     let card = card_of(script);
-    let bus = progress.bus;
-    let given = bus::add(bus, card);
+    let given = bus::add(progress.bus, card);
     let adding = given.adding;
     let next = given.bus;
     let wrote = added_line(adding, out);
@@ -75,16 +63,14 @@ fn added(progress: Progress, script: &[u8], out: &mut [u8]) -> Said
 }
 
 // A refused frame counts as any other does.
-fn framed(progress: Progress, script: &[u8], out: &mut [u8]) -> Said
-    requires { roomy ≤ length out.old }
+#[tactic(auto, unfolding(crate::specs::Record::frame_text, crate::specs::Record::frame_said))]
+fn framed(progress: Progress, script: &[u8], out: &mut [u8; ROOMY]) -> Said
     ensures answer { result ≡ frame_said progress script.now }
     ensures text { Wrote out.old out.new 0 result.wrote (frame_text progress script.now) }
     ensures short { result.wrote ≤ roomy }
 {
-    let count = next(progress.count);
-    let frame = part(script, 1, 6);
-    let bus = progress.bus;
-    let given = bus::frame(bus, frame);
+    let count = progress.count.saturating_add(1);
+    let given = bus::frame(progress.bus, part(script, 1, 6));
     let shown = given.shown;
     let line = given.line;
     let next = given.bus;
@@ -97,8 +83,8 @@ fn framed(progress: Progress, script: &[u8], out: &mut [u8]) -> Said
     }
 }
 
-pub fn carry(progress: Progress, asked: Asked, script: &[u8], out: &mut [u8]) -> Said
-    requires { roomy ≤ length out.old }
+#[tactic(auto, unfolding(crate::specs::Record::asked_text, crate::specs::Record::asked_said))]
+pub fn carry(progress: Progress, asked: Asked, script: &[u8], out: &mut [u8; ROOMY]) -> Said
     ensures answer { result ≡ asked_said progress asked script.now }
     ensures text { Wrote out.old out.new 0 result.wrote (asked_text progress asked script.now) }
     ensures short { result.wrote ≤ roomy }

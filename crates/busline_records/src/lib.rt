@@ -31,6 +31,7 @@ const ROOMY: usize = 64;
 
 // What a record asks for: a card with the identifier in its body, a frame, nothing that is known, or
 // more bytes than there are.
+// Not a `Result`: it would take a second enum for the last two, for the one `match` in `carry`.
 #[derive(Clone, Copy)]
 pub enum Asked {
     Card,
@@ -46,17 +47,11 @@ pub struct Progress {
     pub count: u64,
 }
 
-// What a record, or a piece of a script, leaves: the bytes of the script that it took, and those of
-// its text at the front of the output; how the script goes on.
-#[derive(Clone, Copy)]
-pub struct Said {
-    pub progress: Progress,
-    pub used: usize,
-    pub wrote: usize,
-    pub then: Then,
-}
+// What a record, or a piece of a script, leaves.
+pub type Said = playing::Said<Progress>;
 
 // Before a script: a bus of no cards, and no frame yet.
+#[tactic(auto, unfolding(crate::specs::Record::fresh_progress))]
 pub fn fresh() -> Progress
     ensures answer { result ≡ fresh_progress }
 {
@@ -67,16 +62,16 @@ pub fn fresh() -> Progress
 }
 
 // The record at the front of what is left of a script.
+#[tactic(auto, unfolding(crate::specs::Record::text_of, crate::specs::Record::said_of))]
 pub fn carry_out(progress: Progress, script: &[u8], out: &mut [u8]) -> Said
     ensures answer { result ≡ said_of progress script.now (length out.old) }
     ensures text { out.new ≡ text_of progress script.now (length out.old) ++ drop result.wrote out.old }
     ensures short { result.wrote ≤ roomy }
 {
-    if out.len() < ROOMY {
+    let Some(line) = out.first_chunk_mut::<ROOMY>() else {
         return put_off(progress, Then::NoRoom);
-    }
-    let asked = read(script);
-    carry(progress, asked, script, out)
+    };
+    carry(progress, read(script), script, line)
 }
 
 // The record from a place of a script on, its line written from a place of the output on.
@@ -98,23 +93,18 @@ pub fn play(progress: Progress, script: &[u8], out: &mut [u8]) -> Said
 {
     let lines = out.len() / ROOMY;
     let mut kept = progress;
-    let mut used: usize = 0;
-    let mut wrote: usize = 0;
-    let mut i: usize = 0;
-    while i < lines {
+    let mut used = 0;
+    let mut wrote = 0;
+    for i in 0..lines {
         let said = turn(kept, script, used, out, wrote);
-        let then = said.then;
         kept = said.progress;
         wrote += said.wrote;
-        match then {
-            Then::Goes => {
-                used += said.used;
-            }
+        match said.then {
+            Then::Goes => used += said.used,
             Then::Stops => return left(kept, script.len(), wrote, Then::Stops),
             Then::Waits => return left(kept, used, wrote, Then::Waits),
             Then::NoRoom => return left(kept, used, wrote, Then::NoRoom),
         }
-        i += 1;
     }
     left(kept, used, wrote, Then::NoRoom)
 }

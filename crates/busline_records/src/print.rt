@@ -1,12 +1,10 @@
 // The lines, none of which is longer than the room for one. Each function writes its line at the front of the
 // output, as far as there is room, and answers how many bytes it wrote.
 ghost use Rattle.std.specs.Prelude.{◌≡◌, ℕ, ◌<◌};
-ghost use Rattle.bus.specs.declared.Adding.TheVariants.{Place};
 ghost use Rattle.busline_records.specs.Printing.{prints_silent, bad_kind_text, cut_text, added_text, refused_text, shown_text, roomy};
 ghost use Rattle.text.specs.Writing.{Put, Line};
 
 use base::Refusal;
-use bus::{Adding, Shown};
 use text::lines::{named, plain, refused_by, say};
 use text::parts::part;
 
@@ -17,22 +15,23 @@ pub fn bad_kind_line(out: &mut [u8]) -> usize
 }
 
 // What is printed of the bytes that are left over at the end of the input, as far as there is room.
+// A card's `cut` is given their number alone, and both are public.
 pub fn cut(rest: &[u8], out: &mut [u8]) -> usize
     ensures { Put out.old out.new 0 result (cut_text rest.now) }
 {
-    if rest.len() == 0 {
+    if rest.is_empty() {
         return 0;
     }
     plain(b"cut", out)
 }
 
-pub fn added_line(adding: Adding, out: &mut [u8]) -> usize
-    requires { (n : ℕ) → adding ≡ Place n → n < 30 }
+pub fn added_line(adding: Result<usize, Refusal>, out: &mut [u8]) -> usize
+    requires { (n : ℕ) → adding ≡ Ok n → n < 30 }
     ensures { Line roomy out.old out.new result (added_text adding) }
 {
     match adding {
-        Adding::Place(place) => named(b"card", place as u64 + 1, out),
-        Adding::Refused(why) => refused_by(why, out),
+        Ok(place) => named(b"card", place as u64 + 1, out),
+        Err(why) => refused_by(why, out),
     }
 }
 
@@ -40,7 +39,10 @@ pub fn added_line(adding: Adding, out: &mut [u8]) -> usize
 fn prints_silent(why: Refusal) -> bool
     ensures { result ≡ prints_silent why }
 {
-    base::number(why) <= 3
+    matches!(
+        why,
+        Refusal::FrameLength | Refusal::FrameBits | Refusal::FrameCrc
+    )
 }
 
 fn refused_line(count: u64, why: Refusal, out: &mut [u8]) -> usize
@@ -52,15 +54,20 @@ fn refused_line(count: u64, why: Refusal, out: &mut [u8]) -> usize
     refused_by(why, out)
 }
 
-pub fn shown_line(count: u64, shown: Shown, line: [u8; 17], out: &mut [u8]) -> usize
+pub fn shown_line(
+    count: u64,
+    shown: Result<Option<usize>, Refusal>,
+    line: [u8; 17],
+    out: &mut [u8],
+) -> usize
     ensures { Line roomy out.old out.new result (shown_text count shown line) }
 {
-    match shown {
-        Shown::Line(n) => {
-            let bytes = part(&line, 0, n);
-            say(count, b"line", bytes, out)
-        }
-        Shown::Silent => say(count, b"silent", b"", out),
-        Shown::Refused(why) => refused_line(count, why, out),
+    let heard = match shown {
+        Ok(heard) => heard,
+        Err(why) => return refused_line(count, why, out),
+    };
+    match heard {
+        Some(n) => say(count, b"line", part(&line, 0, n), out),
+        None => say(count, b"silent", b"", out),
     }
 }

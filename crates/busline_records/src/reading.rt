@@ -11,26 +11,23 @@ fn complete(body: usize, script: &[u8], then: Asked) -> Asked
     ensures { result ≡ complete body script.now then }
 {
     if script.len() <= body {
-        return Asked::More;
+        Asked::More
+    } else {
+        then
     }
-    then
 }
 
 // The record at the front of a script.
+#[tactic(auto, unfolding(crate::specs::Reading::asked_of))]
 pub fn read(script: &[u8]) -> Asked
     ensures answer { result ≡ asked_of script.now }
 {
-    if script.len() < 1 {
-        return Asked::More;
+    match script.first() {
+        None => Asked::More,
+        Some(0x01) => complete(15, script, Asked::Card),
+        Some(0x02) => complete(6, script, Asked::Frame),
+        Some(_) => Asked::BadKind,
     }
-    let kind = script[0];
-    if kind == 1 {
-        return complete(15, script, Asked::Card);
-    }
-    if kind == 2 {
-        return complete(6, script, Asked::Frame);
-    }
-    Asked::BadKind
 }
 
 // The identifier of the record at the front of a script: the 15 bytes of its body, with the last
@@ -38,12 +35,10 @@ pub fn read(script: &[u8]) -> Asked
 pub fn identifier(script: &[u8]) -> [u8; 16]
     ensures answer { result ≡ identifier_of script.now }
 {
-    let mut body = [0u8; 15];
-    let given = part(script, 1, 15);
-    copy(given, &mut body, 0);
-    let last = wire::last_byte(&body);
-    let mut cid = [0u8; 16];
+    let mut body = [0; 15];
+    copy(part(script, 1, 15), &mut body, 0);
+    let mut cid = [0; 16];
     copy(&body, &mut cid, 0);
-    cid[15] = last;
+    cid[15] = wire::last_byte(&body);
     cid
 }

@@ -17,35 +17,34 @@ use Rattle.moves.specs.Indices.{among}
 use Rattle.card_record.specs.declared.Card.{Card}
 use Rattle.store.proofs.OnceLent.{once_lent_lem}
 use Rattle.store.specs.Lent.{Seen, lending_of}
-use Rattle.store.specs.declared.Lending.TheVariants.{Right}
-use Rattle.wire.specs.Frames.{crc7_of, field, fields_of, framing_of}
-use Rattle.wire.specs.declared.Framing.{Framing}
-use Rattle.wire.specs.declared.Framing.TheVariants.{Framed}
+use Rattle.wire.specs.Frames.{crc7_of, field, fields_of, framing_of, as_fields}
 use Rattle.card.specs.Frame.{FrameJudged, frame_refused, commanded, framed, frame_judged, spared_told}
-use Rattle.card_blocks.specs.declared.Outcome.TheVariants.{Done, Refused}
 use Rattle.card_blocks.specs.declared.Stepped.{Stepped}
 use Rattle.spi.specs.Hearing.{heard_of, crc_passes, damaged_of}
+use Rattle.std.specs.Prelude.{Result, Ok, Err, None}
+use Rattle.base.specs.declared.Refusal.{Refusal}
+use Rattle.wire.specs.declared.Fields.{Fields}
 
 -- a frame: 12, 1, 2; 3, where its CRC7 is wrong and counts; a command that was read, its CRC7 right or not counting
 pub data FrameOutcome (card : Card) (wins selected : Bool) (frame : List ℕ) (seen : Seen) : FrameJudged → Type 0 where
   unheard : (n : ℕ) → among n (12 ∷ 1 ∷ 2 ∷ []) ≡ true → FrameOutcome card wins selected frame seen (frame_refused card (refusal_of n))
-  damaged : (index argument : ℕ) → framing_of frame ≡ Framed index argument false → crc_passes card.mode index false ≡ false
-      → FrameOutcome card wins selected frame seen (commanded card (Refused (by 3)) (damaged_of card.mode selected card.link))
-  commands : (index argument : ℕ) (right : Bool) → framing_of frame ≡ Framed index argument right → crc_passes card.mode index right ≡ true
-      → lending_of seen card.registers.groups ≡ Right
+  damaged : (index argument : ℕ) → framing_of frame ≡ Ok (as_fields index argument false) → crc_passes card.mode index false ≡ false
+      → FrameOutcome card wins selected frame seen (commanded card (Err (by 3)) (damaged_of card.mode selected card.link))
+  commands : (index argument : ℕ) (right : Bool) → framing_of frame ≡ Ok (as_fields index argument right) → crc_passes card.mode index right ≡ true
+      → lending_of seen card.registers.groups ≡ Ok tt
       → FrameOutcome card wins selected frame seen
-      (commanded card Done (heard_of card.mode selected card.link (met_by card wins) index argument))
+      (commanded card (Ok None) (heard_of card.mode selected card.link (met_by card wins) index argument))
 
 module _ (card : Card) (wins selected : Bool) (frame : List ℕ) (seen : Seen) where
   abbrev Hears : FrameJudged → Type 0
   Hears = FrameOutcome card wins selected frame seen
 
-  module _ (lent : lending_of seen card.registers.groups ≡ Right) where
+  module _ (lent : lending_of seen card.registers.groups ≡ Ok tt) where
     -- a framing, where it is the frame's
-    abbrev Reads : Framing → Type 0
+    abbrev Reads : Result Fields Refusal → Type 0
     Reads framing = framing_of frame ≡ framing → Hears (framed card wins selected framing)
 
-    by_crc : (index argument : ℕ) (right : Bool) → Reads (Framed index argument right)
+    by_crc : (index argument : ℕ) (right : Bool) → Reads (Ok (as_fields index argument right))
     by_crc index argument true e = commands index argument true e refl lent
     by_crc index argument false e =
         guarded Hears (crc_passes card.mode index false) (λ t. damaged index argument e t) (λ t. commands index argument false e t lent)

@@ -1,13 +1,11 @@
 -- Document 01, "How a card takes a frame", and document 02, request 1: a frame at a card. "Frame: 1, 2, 3; at a card 12 comes first".
 -- Assumes nothing.
-use Rattle.std.specs.Prelude.{Bool, true, false, List, ℕ}
+use Rattle.std.specs.Prelude.{Bool, true, false, List, ℕ, Result, Option, Ok, Err, None}
 use Rattle.base.specs.Choice.{unless}
 use Rattle.base.specs.Refusals.{by}
 use Rattle.base.specs.declared.Refusal.{Refusal}
 use Rattle.card_blocks.specs.Replies.{replied, refused}
 use Rattle.card.specs.declared.Answered.{Answered}
-use Rattle.card_blocks.specs.declared.Outcome.{Outcome}
-use Rattle.card_blocks.specs.declared.Outcome.TheVariants.{Done, Refused}
 use Rattle.card_blocks.specs.declared.Stepped.{Stepped}
 use Rattle.command.specs.Command.{met_by}
 use Rattle.command.specs.declared.Change.{Change}
@@ -26,8 +24,7 @@ use Rattle.store.specs.Lent.{Lent, Seen, with_memory, with_map, lending_of, once
 use Rattle.store.specs.Map.{group_set}
 use Rattle.tags.specs.declared.Tags.{Tags}
 use Rattle.wire.specs.Frames.{framing_of}
-use Rattle.wire.specs.declared.Framing.{Framing}
-use Rattle.wire.specs.declared.Framing.TheVariants.{Framed, Unframed}
+use Rattle.wire.specs.declared.Fields.{Fields}
 
 -- a frame judged: the answer, and what is to change in what is lent
 pub record FrameJudged : Type 0 where
@@ -43,16 +40,16 @@ abbrev pub hearing : Card → Heard → Card
 hearing card heard = record { registers = card.registers; lock = card.lock; link = heard.link; mode = heard.mode }
 
 -- a command as the card took it, or a frame refused 3 as it left the card: in SPI something is sent beside the number
-abbrev pub commanded : Card → Outcome → Heard → FrameJudged
+abbrev pub commanded : Card → Result (Option ℕ) Refusal → Heard → FrameJudged
 commanded card outcome heard = record { stepped = replied (hearing card heard) outcome heard.sent; change = heard.change }
 
 -- 1 and 2, which "change nothing"; 3, where the CRC7 counts; then the command. "In its own call a card is alone on the line, so CMD2 wins"; a
 -- card that shares its line is told whether it won. `selected` says that the card's select line is low
-abbrev pub framed : Card → Bool → Bool → Framing → FrameJudged
-framed card wins selected (Unframed refusal) = frame_refused card refusal
-framed card wins selected (Framed index argument right) =
-    unless (crc_passes card.mode index right) (commanded card (Refused (by 3)) (damaged_of card.mode selected card.link))
-    (commanded card Done (heard_of card.mode selected card.link (met_by card wins) index argument))
+abbrev pub framed : Card → Bool → Bool → Result Fields Refusal → FrameJudged
+framed card wins selected (Err refusal) = frame_refused card refusal
+framed card wins selected (Ok fields) =
+    unless (crc_passes card.mode fields.index fields.crc_right) (commanded card (Err (by 3)) (damaged_of card.mode selected card.link))
+    (commanded card (Ok None) (heard_of card.mode selected card.link (met_by card wins) fields.index fields.argument))
 
 -- a frame judged: 12 before all else
 unfoldable pub frame_judged : Card → Bool → Bool → List ℕ → Seen → FrameJudged

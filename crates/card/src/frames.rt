@@ -2,30 +2,30 @@
 ghost use Rattle.std.specs.Prelude.{◌≡◌};
 ghost use Rattle.card.specs.Frame.{framed, commanded, frame_judged, skip_told, frame_told, frame_stepped, changed, changed_by, command_heard};
 ghost use Rattle.base.specs.Refusals.{by};
-ghost use Rattle.card_blocks.specs.declared.Outcome.TheVariants.{Done, Refused};
 ghost use Rattle.command.specs.Command.{met_by};
 ghost use Rattle.spi.specs.Hearing.{heard_of, damaged_of};
-ghost use Rattle.store.specs.Lent.{lent_of, seen};
+ghost use Rattle.card_blocks.specs.Lending.{held, Leaves};
+ghost use Rattle.store.specs.Lent.{seen};
 
 use crate::Answered;
 use base::Refusal;
-use card_blocks::{Outcome, Reply, Stepped, refuse};
+use card_blocks::{Lending, Reply, Stepped, refuse};
 use card_record::{Card, Link, Mode};
 use command::{Change, Met};
 use status::ErrorBit;
-use store::Lending;
-use wire::Framing;
+use wire::{Command, Fields};
 
 // Bit 15, which waits for the next R1, where an erase spared a sector.
 fn tell_spared(link: Link, spared: bool) -> Link
     ensures { result ≡ skip_told link spared }
 {
-    if !spared {
-        return link;
-    }
-    Link {
-        errors: status::set(link.errors, ErrorBit::WpEraseSkip),
-        ..link
+    if spared {
+        Link {
+            errors: status::set(link.errors, ErrorBit::WpEraseSkip),
+            ..link
+        }
+    } else {
+        link
     }
 }
 
@@ -37,42 +37,29 @@ pub fn heard(
     link: Link,
     met: Met,
     whole: bool,
-    index: u8,
-    argument: u32,
-    memory: &mut [u8],
-    map: &mut [u8],
+    command: Command,
+    lent: &mut Lending,
 ) -> Answered
-    ensures answer { result ≡ command_heard mode selected link met whole index argument (seen (lent_of memory.old map.old)) }
-    ensures lent { lent_of memory.new map.new ≡ changed link.tags whole (heard_of mode selected link met index argument).change (lent_of memory.old map.old) }
+    ensures answer { result ≡ command_heard mode selected link met whole command.index command.argument (seen (held lent.old)) }
+    ensures lent { Leaves lent.old lent.new (changed link.tags whole (heard_of mode selected link met command.index command.argument).change (held lent.old)) }
 {
-    let given = spi::hear(mode, selected, link, met, index, argument);
-    let after = given.mode;
+    let given = spi::hear(mode, selected, link, met, command);
     let next = given.link;
-    let sent = given.sent;
-    let change = given.change;
-    match change {
-        Change::Nothing => Answered {
-            mode: after,
-            link: next,
-            sent,
-        },
+    let told = match given.change {
+        Change::Nothing => next,
         Change::Protect { group, on } => {
-            store::protect(map, group, on);
-            Answered {
-                mode: after,
-                link: next,
-                sent,
-            }
+            store::protect(lent.map, group, on);
+            next
         }
         Change::Erase => {
-            let tags = link.tags;
-            let spared = store::erase(memory, map, tags, whole);
-            Answered {
-                mode: after,
-                link: tell_spared(next, spared),
-                sent,
-            }
+            let map = &mut *lent.map;
+            tell_spared(next, store::erase(lent.memory, map, link.tags, whole))
         }
+    };
+    Answered {
+        mode: given.mode,
+        link: told,
+        sent: given.sent,
     }
 }
 
@@ -81,63 +68,42 @@ fn commanded(
     card: Card,
     wins: bool,
     selected: bool,
-    index: u8,
-    argument: u32,
-    memory: &mut [u8],
-    map: &mut [u8],
+    command: Command,
+    lent: &mut Lending,
 ) -> Stepped
-    ensures answer { result ≡ frame_told card (seen (lent_of memory.old map.old)) (commanded card Done (heard_of card.mode selected card.link (met_by card wins) index argument)) }
-    ensures lent { lent_of memory.new map.new ≡ changed_by card (heard_of card.mode selected card.link (met_by card wins) index argument).change (lent_of memory.old map.old) }
+    ensures answer { result ≡ frame_told card (seen (held lent.old)) (commanded card (Ok None) (heard_of card.mode selected card.link (met_by card wins) command.index command.argument)) }
+    ensures lent { Leaves lent.old lent.new (changed_by card (heard_of card.mode selected card.link (met_by card wins) command.index command.argument).change (held lent.old)) }
 {
-    let registers = card.registers;
-    let csd = registers.csd;
-    let whole = card_record::csd_protects(csd);
-    let met = Met {
-        ocr: registers.ocr,
-        groups: registers.groups,
-        locked: card.lock.locked,
-        wins,
-    };
-    let link = card.link;
-    let mode = card.mode;
-    let given = heard(
-        mode, selected, link, met, whole, index, argument, memory, map,
-    );
-    let next = given.link;
-    let after = given.mode;
-    let sent = given.sent;
+    let whole = card_record::csd_protects(card.registers.csd);
+    let met = command::met_by(card, wins);
+    let given = heard(card.mode, selected, card.link, met, whole, command, lent);
     Stepped {
         card: Card {
-            link: next,
-            mode: after,
+            link: given.link,
+            mode: given.mode,
             ..card
         },
         reply: Reply {
-            outcome: Outcome::Done,
-            sent,
+            outcome: Ok(None),
+            sent: given.sent,
         },
     }
 }
 
-// A frame whose CRC7 is wrong, where that counts.
+// A frame whose CRC7 is wrong, where that counts. It ends as `commanded` does; a function for both ends would take five parameters.
 fn damaged(card: Card, selected: bool) -> Stepped
-    ensures { result ≡ (commanded card (Refused (by 3)) (damaged_of card.mode selected card.link)).stepped }
+    ensures { result ≡ (commanded card (Err (by 3)) (damaged_of card.mode selected card.link)).stepped }
 {
-    let mode = card.mode;
-    let link = card.link;
-    let given = spi::damaged(mode, selected, link);
-    let next = given.link;
-    let after = given.mode;
-    let sent = given.sent;
+    let given = spi::damaged(card.mode, selected, card.link);
     Stepped {
         card: Card {
-            link: next,
-            mode: after,
+            link: given.link,
+            mode: given.mode,
             ..card
         },
         reply: Reply {
-            outcome: Outcome::Refused(Refusal::FrameCrc),
-            sent,
+            outcome: Err(Refusal::FrameCrc),
+            sent: given.sent,
         },
     }
 }
@@ -147,48 +113,41 @@ fn framed(
     card: Card,
     wins: bool,
     selected: bool,
-    framing: Framing,
-    memory: &mut [u8],
-    map: &mut [u8],
+    framing: Result<Fields, Refusal>,
+    lent: &mut Lending,
 ) -> Stepped
-    ensures answer { result ≡ frame_told card (seen (lent_of memory.old map.old)) (framed card wins selected framing) }
-    ensures lent { lent_of memory.new map.new ≡ changed_by card (framed card wins selected framing).change (lent_of memory.old map.old) }
+    ensures answer { result ≡ frame_told card (seen (held lent.old)) (framed card wins selected framing) }
+    ensures lent { Leaves lent.old lent.new (changed_by card (framed card wins selected framing).change (held lent.old)) }
 {
     match framing {
-        Framing::Framed {
-            index,
-            argument,
-            crc_right,
-        } => {
+        Ok(
+            Fields {
+                index,
+                argument,
+                crc_right,
+            },
+        ) => {
             if spi::crc_passes(card.mode, index, crc_right) {
-                commanded(card, wins, selected, index, argument, memory, map)
+                commanded(card, wins, selected, Command { index, argument }, lent)
             } else {
                 damaged(card, selected)
             }
         }
-        Framing::Unframed(refusal) => refuse(card, refusal),
+        Err(refusal) => refuse(card, refusal),
     }
 }
 
 // A frame at a card: judged, and then carried out on what is lent. A card that is alone on its line wins
 // CMD2; one that shares it is told whether its CID was heard to the last bit.
-pub fn frame(
-    card: Card,
-    wins: bool,
-    selected: bool,
-    frame: &[u8],
-    memory: &mut [u8],
-    map: &mut [u8],
-) -> Stepped
-    ensures answer { result ≡ frame_stepped card wins selected frame.now (seen (lent_of memory.old map.old)) }
-    ensures lent { lent_of memory.new map.new ≡ changed_by card (frame_judged card wins selected frame.now (seen (lent_of memory.old map.old))).change (lent_of memory.old map.old) }
+pub fn frame(card: Card, wins: bool, selected: bool, frame: &[u8], lent: &mut Lending) -> Stepped
+    ensures answer { result ≡ frame_stepped card wins selected frame.now (seen (held lent.old)) }
+    ensures lent { Leaves lent.old lent.new (changed_by card (frame_judged card wins selected frame.now (seen (held lent.old))).change (held lent.old)) }
 {
-    let lending = store::lent_check(memory.len(), map, card.registers.groups as usize);
-    match lending {
-        Lending::Right => {
+    match lent.check(card.registers.groups as usize) {
+        Ok(()) => {
             let framing = wire::unframe(frame);
-            framed(card, wins, selected, framing, memory, map)
+            framed(card, wins, selected, framing, lent)
         }
-        Lending::Refused(refusal) => refuse(card, refusal),
+        Err(refusal) => refuse(card, refusal),
     }
 }

@@ -11,9 +11,10 @@ mod frames;
 
 ghost use Rattle.std.specs.Prelude.{◌≡◌, length};
 ghost use Rattle.card.specs.Step.{step_of, lent_after, output_of};
-ghost use Rattle.store.specs.Lent.{lent_of, seen};
+ghost use Rattle.card_blocks.specs.Lending.{held, Leaves};
+ghost use Rattle.store.specs.Lent.{seen};
 
-use card_blocks::{Stepped, block_in, block_out, done};
+use card_blocks::{Lending, Stepped, block_in, block_out, done};
 use card_record::{Card, Link, Mode, Sent};
 pub use frames::{frame, heard};
 
@@ -37,22 +38,15 @@ pub enum Call {
 }
 
 // One call, whichever it is. A frame and a block in are in `input`; a block out goes to `out`.
-pub fn step(
-    card: Card,
-    call: Call,
-    input: &[u8],
-    memory: &mut [u8],
-    map: &mut [u8],
-    out: &mut [u8],
-) -> Stepped
-    ensures answer { result ≡ step_of card call input.now (seen (lent_of memory.old map.old)) (length out.old) }
-    ensures lent { lent_of memory.new map.new ≡ lent_after card call input.now (lent_of memory.old map.old) }
-    ensures output { out.new ≡ output_of card call (lent_of memory.old map.old) out.old }
+pub fn step(card: Card, call: Call, input: &[u8], lent: &mut Lending, out: &mut [u8]) -> Stepped
+    ensures answer { result ≡ step_of card call input.now (seen (held lent.old)) (length out.old) }
+    ensures lent { Leaves lent.old lent.new (lent_after card call input.now (held lent.old)) }
+    ensures output { out.new ≡ output_of card call (held lent.old) out.old }
 {
     match call {
-        Call::Frame { wins, selected } => frame(card, wins, selected, input, memory, map),
-        Call::BlockIn => block_in(card, input, memory, map),
-        Call::BlockOut => block_out(card, memory, map, out),
+        Call::Frame { wins, selected } => frame(card, wins, selected, input, lent),
+        Call::BlockIn => block_in(card, input, lent),
+        Call::BlockOut => block_out(card, lent.memory(), lent.map(), out),
         Call::WorkDone => done(card_record::work_done(card)),
         Call::PowerOn => done(card_record::power_on(card)),
     }

@@ -29,12 +29,9 @@ use Rattle.states.specs.declared.Outgoing.TheVariants.{One as OneOut, Many as Ma
 use Rattle.states.specs.declared.State.{State}
 use Rattle.states.specs.declared.State.TheVariants.{Idle, Ready, Ident, Stby, Tran, Data, Rcv, Prg, Dis, Ina}
 use Rattle.status.specs.ErrorBits.{error_bit}
-use Rattle.status.specs.declared.Fault.{Fault}
-use Rattle.status.specs.declared.Fault.TheVariants.{None, Bit}
 use Rattle.store.proofs.OnceLent.{once_lent_lem}
 use Rattle.store.specs.Lent.{Seen, lending_of}
 use Rattle.store.specs.Map.{protected_in}
-use Rattle.store.specs.declared.Lending.TheVariants.{Right}
 use Rattle.wire.specs.Blocks.{payload_of}
 use Rattle.card_blocks.specs.BlockIn.{awaited_length, after_stored, block_refused, block_good, write_judged, lock_judged, request_judged, carried_out, checked_judged, awaited_judged, unread, state_judged, block_judged}
 use Rattle.card_blocks.specs.BlockOut.{unsent, out_refused, out_good, after_sent, part_judged, bytes_judged, outgoing_judged, state_sends, out_judged}
@@ -44,6 +41,8 @@ use Rattle.card_blocks.specs.declared.OutJudged.{OutJudged}
 use Rattle.card_blocks.specs.declared.Sending.{Sending}
 use Rattle.card_blocks.specs.declared.Sending.TheVariants.{Part, Protection as Bits, Csd, Cid}
 use Rattle.card_blocks.specs.declared.Storing.TheVariants.{Nothing, Sector, All}
+use Rattle.std.specs.Prelude.{Option, Ok, Some, None}
+use Rattle.status.specs.declared.ErrorBit.{ErrorBit}
 
 -- awaited work that is a write from an address on
 pub data WritesAt : Incoming → ℕ → Type 0 where
@@ -66,16 +65,16 @@ asked_of card block = request_of card.lock (payload_of (unstarted card.mode.spi 
 
 -- ---- the lists
 -- an awaited block is refused: 16, 17, 18, 19, 20
-pub data Refuses (card : Card) (incoming : Incoming) : Refusal → Fault → Type 0 where
-  wrong_length_lem : Refuses card incoming (by 16) (Bit (error_bit 29))
+pub data Refuses (card : Card) (incoming : Incoming) : Refusal → Option ErrorBit → Type 0 where
+  wrong_length_lem : Refuses card incoming (by 16) (Some (error_bit 29))
   wrong_crc : Refuses card incoming (by 17) None
-  past_end : (at : ℕ) → WritesAt incoming at → sectors card ≤ at / 512 → Refuses card incoming (by 18) (Bit (error_bit 31))
-  protected : Refuses card incoming (by 19) (Bit (error_bit 26))
-  failed : Refuses card incoming (by 20) (Bit (error_bit 24))
+  past_end : (at : ℕ) → WritesAt incoming at → sectors card ≤ at / 512 → Refuses card incoming (by 18) (Some (error_bit 31))
+  protected : Refuses card incoming (by 19) (Some (error_bit 26))
+  failed : Refuses card incoming (by 20) (Some (error_bit 24))
 
 -- a block is stored: 12, 16, 18 and 19 did not stop it
 pub record Storable (card : Card) (block : List ℕ) (seen : Seen) (sector : ℕ) : Type 0 where
-  pub lent : lending_of seen card.registers.groups ≡ Right
+  pub lent : lending_of seen card.registers.groups ≡ Ok tt
   pub long : length block ≡ 512 + beside card.mode.spi
   pub in_range : sector < sectors card
   pub free : protected_in seen.map (csd_protects card.registers.csd) sector ≡ false
@@ -83,7 +82,7 @@ pub record Storable (card : Card) (block : List ℕ) (seen : Seen) (sector : ℕ
 -- a block in: 12, 15; an awaited block refused; a sector stored; a lock request granted, a forced erase or another
 pub data InOutcome (card : Card) (block : List ℕ) (seen : Seen) : BlockJudged → Type 0 where
   unreads : (n : ℕ) → among n (12 ∷ 15 ∷ []) ≡ true → InOutcome card block seen (unread card (refusal_of n))
-  refuses : (incoming : Incoming) (refusal : Refusal) (fault : Fault) → card.link.state ≡ Rcv incoming → Refuses card incoming refusal fault
+  refuses : (incoming : Incoming) (refusal : Refusal) (fault : Option ErrorBit) → card.link.state ≡ Rcv incoming → Refuses card incoming refusal fault
       → InOutcome card block seen (block_refused card incoming refusal fault)
   stores : (incoming : Incoming) (at : ℕ) → WritesAt incoming at → card.link.state ≡ Rcv incoming → Storable card block seen (at / 512)
       → InOutcome card block seen (block_good card (after_stored incoming (at / 512 * 512 + 512)) (Sector (at / 512)))
@@ -109,18 +108,18 @@ module _ (card : Card) (block : List ℕ) (seen : Seen) where
       → In (lock_judged card (asked_of card block).lock answer)
   request_outcome on Granted e = grants on e
   request_outcome on Erased e = forces on e
-  request_outcome on Failed e = refuses LockRequest (by 20) (Bit (error_bit 24)) on failed
+  request_outcome on Failed e = refuses LockRequest (by 20) (Some (error_bit 24)) on failed
 
-  module _ (lent : lending_of seen card.registers.groups ≡ Right) where
+  module _ (lent : lending_of seen card.registers.groups ≡ Ok tt) where
     write_outcome : (incoming : Incoming) (at : ℕ) → WritesAt incoming at → card.link.state ≡ Rcv incoming → length block ≡ 512 + beside card.mode.spi
         → In (write_judged card incoming (at / 512) seen.map)
     unfolding write_judged
     write_outcome incoming at w on long =
         guarded In (ltb (at / 512) (sectors card))
-        (λ t. refuses incoming (by 18) (Bit (error_bit 31)) on (past_end at w (ltb-false (at / 512) (sectors card) t)))
+        (λ t. refuses incoming (by 18) (Some (error_bit 31)) on (past_end at w (ltb-false (at / 512) (sectors card) t)))
         (λ t.
         guarded In (not (protected_in seen.map (csd_protects card.registers.csd) (at / 512)))
-        (λ u. refuses incoming (by 19) (Bit (error_bit 26)) on protected)
+        (λ u. refuses incoming (by 19) (Some (error_bit 26)) on protected)
         (λ u. stores incoming at w on (record { lent = lent; long = long; in_range = ltb-true (at / 512) (sectors card) t; free = not-true _ u })))
 
     carried_outcome : (incoming : Incoming) → card.link.state ≡ Rcv incoming → length block ≡ awaited_length card incoming + beside card.mode.spi
@@ -134,9 +133,9 @@ module _ (card : Card) (block : List ℕ) (seen : Seen) where
     unfolding awaited_judged checked_judged
     awaited_outcome incoming on =
         guarded In (eqb (length block) (awaited_length card incoming + beside card.mode.spi))
-        (λ t. refuses incoming (by 16) (Bit (error_bit 29)) on wrong_length_lem)
+        (λ t. refuses incoming (by 16) (Some (error_bit 29)) on wrong_length_lem)
         (λ t.
-        guarded In (started card.mode.spi block) (λ u. refuses incoming (by 16) (Bit (error_bit 29)) on wrong_length_lem)
+        guarded In (started card.mode.spi block) (λ u. refuses incoming (by 16) (Some (error_bit 29)) on wrong_length_lem)
         (λ u.
         guarded In (crc_right card.mode (unstarted card.mode.spi block)) (λ v. refuses incoming (by 17) None on wrong_crc)
         (λ v. carried_outcome incoming on (eqb-true (length block) (awaited_length card incoming + beside card.mode.spi) t))))

@@ -42,7 +42,6 @@ use Rattle.states.specs.declared.Outgoing.TheVariants.{Csd as CsdOut}
 use Rattle.states.specs.declared.State.{State}
 use Rattle.states.specs.declared.State.TheVariants.{Idle, Tran, Data, Rcv, Prg, Ina}
 use Rattle.status.specs.Status.{no_errors}
-use Rattle.status.specs.declared.Fault.TheVariants.{None}
 use Rattle.store.specs.Lent.{lent_of}
 use Rattle.tags.specs.Tagging.{no_tags}
 use Rattle.wire.specs.Blocks.{block_of}
@@ -50,9 +49,9 @@ use Rattle.card_blocks.specs.BlockIn.{block_refused, block_good, write_judged, r
 use Rattle.card_blocks.specs.BlockOut.{out_good, bytes_judged, state_sends, in_front, sent_out}
 use Rattle.card_blocks.specs.Replies.{refused, done}
 use Rattle.card_blocks.specs.declared.BlockJudged.{BlockJudged}
-use Rattle.card_blocks.specs.declared.Outcome.TheVariants.{Done, Wrote, Refused}
 use Rattle.card_blocks.specs.declared.Sending.TheVariants.{Csd}
 use Rattle.card_blocks.specs.declared.Storing.TheVariants.{All}
+use Rattle.std.specs.Prelude.{Ok, Err, Some, None}
 
 abbrev registers : Registers
 registers = record { cid = replicate 16 1; csd = replicate 16 2; ocr = 0x00FF8000; groups = 1 }
@@ -60,7 +59,7 @@ registers = record { cid = replicate 16 1; csd = replicate 16 2; ocr = 0x00FF800
 abbrev card : State → Card
 card state = record { registers = registers; lock = no_password; link = with_state fresh_link state; mode = mmc_mode }
 
-refusal_done : (refused (card Ina) (by 12)).reply.outcome ≡ Done → ⊥
+refusal_done : (refused (card Ina) (by 12)).reply.outcome ≡ Ok None → ⊥
 refusal_done e = clash cc
 
 refusal_sends : (refused (card Ina) (by 12)).reply.sent ≡ Cid → ⊥
@@ -70,7 +69,7 @@ refusal_wakes : (refused (card Ina) (by 12)).card.link.state ≡ Idle → ⊥
 unfolding fresh_link
 refusal_wakes e = clash cc
 
-done_refused : (done (card Tran)).reply.outcome ≡ Refused (by 12) → ⊥
+done_refused : (done (card Tran)).reply.outcome ≡ Err (by 12) → ⊥
 done_refused e = clash cc
 
 done_sends : (done (card Tran)).reply.sent ≡ Cid → ⊥
@@ -114,15 +113,15 @@ bad_accepted : (asked true true (0xFE ∷ 8 ∷ 0 ∷ 0 ∷ [])).stepped.reply.s
 unfolding awaited_judged checked_judged block_refused crc16 check_sum remainder divide bits
 bad_accepted e = clash cc
 
-start_ignored : (asked true false (0xFF ∷ 8 ∷ 0 ∷ 0 ∷ [])).stepped.reply.outcome ≡ Done → ⊥
+start_ignored : (asked true false (0xFF ∷ 8 ∷ 0 ∷ 0 ∷ [])).stepped.reply.outcome ≡ Ok None → ⊥
 unfolding awaited_judged block_refused
 start_ignored e = clash cc
 
-crc_looked_at : (asked true false (0xFE ∷ 8 ∷ 0 ∷ 0 ∷ [])).stepped.reply.outcome ≡ Refused (by 17) → ⊥
+crc_looked_at : (asked true false (0xFE ∷ 8 ∷ 0 ∷ 0 ∷ [])).stepped.reply.outcome ≡ Err (by 17) → ⊥
 unfolding awaited_judged checked_judged request_judged request_of holding block_good
 crc_looked_at e = clash cc
 
-crc_passed_by : (asked true true (0xFE ∷ 8 ∷ 0 ∷ 0 ∷ [])).stepped.reply.outcome ≡ Done → ⊥
+crc_passed_by : (asked true true (0xFE ∷ 8 ∷ 0 ∷ 0 ∷ [])).stepped.reply.outcome ≡ Ok None → ⊥
 unfolding awaited_judged checked_judged block_refused crc16 check_sum remainder divide bits
 crc_passed_by e = clash cc
 
@@ -140,10 +139,10 @@ unstarted : get_or (sent_out (asking true false) (lent_of [] []) Csd (replicate 
 unfolding sent_out in_front block_of
 unstarted e = let z : ◌≡◌ {A = ℕ} 0xFE 2 = e in omega arith
 
-start_uncounted : (state_sends (asking true false) (Data CsdOut) 19).stepped.reply.outcome ≡ Wrote 18 → ⊥
+start_uncounted : (state_sends (asking true false) (Data CsdOut) 19).stepped.reply.outcome ≡ Ok (Some 18) → ⊥
 unfolding bytes_judged out_good
 start_uncounted e = clash cc
 
-start_unfit : (state_sends (asking true false) (Data CsdOut) 18).stepped.reply.outcome ≡ Wrote 18 → ⊥
+start_unfit : (state_sends (asking true false) (Data CsdOut) 18).stepped.reply.outcome ≡ Ok (Some 18) → ⊥
 unfolding bytes_judged
 start_unfit e = clash cc

@@ -1,7 +1,7 @@
 -- Document 01, "Reading, writing, erasing, locking": a block in. "Block in: 12, 15, 16, 17, 18, 19 or 20." Document 02, request 1: the same in
 -- SPI, but for the framing.
 -- Assumes nothing.
-use Rattle.std.specs.Prelude.{not, List, ℕ, ◌+◌, ◌*◌, ◌/◌, eqb, ltb, length}
+use Rattle.std.specs.Prelude.{not, List, ℕ, ◌+◌, ◌*◌, ◌/◌, eqb, ltb, length, Result, Option, Ok, Err, Some, None}
 use Rattle.base.specs.Choice.{unless}
 use Rattle.base.specs.Refusals.{by}
 use Rattle.base.specs.Sizes.{sector_size}
@@ -9,8 +9,6 @@ use Rattle.base.specs.declared.Refusal.{Refusal}
 use Rattle.card_blocks.specs.Framing.{beside, started, unstarted, crc_right, response_to}
 use Rattle.card_blocks.specs.Replies.{replied, refused}
 use Rattle.card_blocks.specs.declared.BlockJudged.{BlockJudged}
-use Rattle.card_blocks.specs.declared.Outcome.{Outcome}
-use Rattle.card_blocks.specs.declared.Outcome.TheVariants.{Done, Refused}
 use Rattle.card_blocks.specs.declared.Stepped.{Stepped}
 use Rattle.card_blocks.specs.declared.Storing.{Storing}
 use Rattle.card_blocks.specs.declared.Storing.TheVariants.{Nothing, Sector, All}
@@ -27,12 +25,11 @@ use Rattle.states.specs.declared.State.TheVariants.{Idle, Ready, Ident, Stby, Tr
 use Rattle.status.specs.ErrorBits.{error_bit}
 use Rattle.status.specs.Status.{with_bit}
 use Rattle.status.specs.declared.Errors.{Errors}
-use Rattle.status.specs.declared.Fault.{Fault}
-use Rattle.status.specs.declared.Fault.TheVariants.{None, Bit}
 use Rattle.store.specs.Lent.{Lent, Seen, with_memory, with_map, lending_of, once_lent}
 use Rattle.store.specs.Map.{protected_in, map_cleared}
 use Rattle.store.specs.Memory.{sector_written, all_erased}
 use Rattle.wire.specs.Blocks.{payload_of}
+use Rattle.status.specs.declared.ErrorBit.{ErrorBit}
 
 -- the payload's length that is awaited: a write's is a sector, and a lock request is "one block of the block length"
 abbrev pub awaited_length : Card → Incoming → ℕ
@@ -57,41 +54,41 @@ after_stored (Many at) next = Rcv (Many next)
 after_stored LockRequest next = Prg
 
 -- the error bits with that of a fault set, where there is one
-abbrev pub with_fault : Errors → Fault → Errors
+abbrev pub with_fault : Errors → Option ErrorBit → Errors
 with_fault errors None = errors
-with_fault errors (Bit bit) = with_bit errors bit
+with_fault errors (Some bit) = with_bit errors bit
 
 -- what becomes of a block that was awaited, with the data response that follows it in SPI
-abbrev pub block_replied : Card → Outcome → Stepped
+abbrev pub block_replied : Card → Result (Option ℕ) Refusal → Stepped
 block_replied card outcome = replied card outcome (response_to card.mode.spi outcome)
 
 -- a refused block with the error bit that it sets, if any: "Refused 16, 18 and 19 set bits 29, 31, 26; 17 sets none"; "16 sets bit 29, 20
 -- sets 24". Nothing is stored
-unfoldable pub block_refused : Card → Incoming → Refusal → Fault → BlockJudged
+unfoldable pub block_refused : Card → Incoming → Refusal → Option ErrorBit → BlockJudged
 block_refused card incoming refusal fault =
     record {
       stepped =
           block_replied (with_link card (with_errors (with_state card.link (after_refused incoming)) (with_fault card.link.errors fault)))
-          (Refused refusal);
+          (Err refusal);
       storing = Nothing;
     }
 
 -- a good block: the state that it leads to, and what is to be stored
 unfoldable pub block_good : Card → State → Storing → BlockJudged
-block_good card state storing = record { stepped = block_replied (with_link card (with_state card.link state)) Done; storing = storing }
+block_good card state storing = record { stepped = block_replied (with_link card (with_state card.link state)) (Ok None); storing = storing }
 
 -- a write's block: 18, 19, and else "A good block is stored"
 unfoldable pub write_judged : Card → Incoming → ℕ → List ℕ → BlockJudged
 write_judged card incoming sector map =
-    unless (ltb sector (size_of card.registers.groups / sector_size)) (block_refused card incoming (by 18) (Bit (error_bit 31)))
-    (unless (not (protected_in map (csd_protects card.registers.csd) sector)) (block_refused card incoming (by 19) (Bit (error_bit 26)))
+    unless (ltb sector (size_of card.registers.groups / sector_size)) (block_refused card incoming (by 18) (Some (error_bit 31)))
+    (unless (not (protected_in map (csd_protects card.registers.csd) sector)) (block_refused card incoming (by 19) (Some (error_bit 26)))
     (block_good card (after_stored incoming (sector * sector_size + sector_size)) (Sector sector)))
 
 -- a lock request's block: 20 where it failed; "Granted goes to prg"; "Forced erase .. fills memory, clears the map"
 abbrev pub lock_judged : Card → Lock → Answer → BlockJudged
 lock_judged card lock Granted = block_good (with_lock card lock) Prg Nothing
 lock_judged card lock Erased = block_good (with_lock card lock) Prg All
-lock_judged card lock Failed = block_refused card LockRequest (by 20) (Bit (error_bit 24))
+lock_judged card lock Failed = block_refused card LockRequest (by 20) (Some (error_bit 24))
 
 unfoldable pub request_judged : Card → List ℕ → BlockJudged
 request_judged card payload =
@@ -110,7 +107,7 @@ checked_judged card incoming block map =
     unless (crc_right card.mode block) (block_refused card incoming (by 17) None) (carried_out card incoming (payload_of block) map)
 
 abbrev pub wrong_length : Card → Incoming → BlockJudged
-wrong_length card incoming = block_refused card incoming (by 16) (Bit (error_bit 29))
+wrong_length card incoming = block_refused card incoming (by 16) (Some (error_bit 29))
 
 -- 16 of an awaited block, "start byte FE (another is 16)"
 unfoldable pub awaited_judged : Card → Incoming → List ℕ → List ℕ → BlockJudged

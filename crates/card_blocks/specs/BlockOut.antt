@@ -1,7 +1,7 @@
 -- Document 01, "Reading, writing, erasing, locking": a block out. "Block out: 12, 15, 6, 18, 21." Document 02, request 1: in SPI the start byte
 -- comes first, and registers are sent as blocks.
 -- Assumes nothing.
-use Rattle.std.specs.Prelude.{Bool, false, not, List, [], ◌∷◌, ℕ, ◌+◌, leb, length}
+use Rattle.std.specs.Prelude.{Bool, false, not, List, [], ◌∷◌, ℕ, ◌+◌, leb, length, Ok, Some}
 use Rattle.base.specs.Choice.{unless}
 use Rattle.base.specs.Output.{fits, laid}
 use Rattle.base.specs.Refusals.{by}
@@ -9,7 +9,6 @@ use Rattle.base.specs.declared.Refusal.{Refusal}
 use Rattle.card_blocks.specs.Framing.{beside, with_start}
 use Rattle.card_blocks.specs.Replies.{replied, refused}
 use Rattle.card_blocks.specs.declared.OutJudged.{OutJudged}
-use Rattle.card_blocks.specs.declared.Outcome.TheVariants.{Wrote}
 use Rattle.card_blocks.specs.declared.Sending.{Sending}
 use Rattle.card_blocks.specs.declared.Sending.TheVariants.{Nothing, Part, Protection, Csd, Cid}
 use Rattle.card_record.specs.declared.Sent.TheVariants.{Nothing as Unsent}
@@ -41,7 +40,7 @@ out_refused card refusal bit =
 -- a block of n bytes that goes out, and the state after it
 unfoldable pub out_good : Card → State → ℕ → Sending → OutJudged
 out_good card state n sending =
-    record { stepped = replied (with_link card (with_state card.link state)) (Wrote (n + beside card.mode.spi)) Unsent; sending = sending }
+    record { stepped = replied (with_link card (with_state card.link state)) (Ok (Some (n + beside card.mode.spi))) Unsent; sending = sending }
 
 -- after a block that goes out, with the address behind it: "After CMD17's block the card is in tran. CMD18 moves on by one block"; the
 -- protection bits are read "as CMD17"

@@ -6,12 +6,11 @@ ghost use Rattle.wire.specs.Blocks.{block_of};
 
 use crate::framing::{START, beside};
 use crate::replies::refuse;
-use crate::{OutJudged, Outcome, Reply, Sending, Stepped};
-use base::{Refusal, Written};
+use crate::{OutJudged, Reply, Sending, Stepped};
+use base::Refusal;
 use card_record::{Card, Link, Registers, Sent};
 use states::{Outgoing, State};
 use status::ErrorBit;
-use store::Lending;
 
 fn unsent(card: Card, refusal: Refusal) -> OutJudged
     ensures { result ≡ unsent card refusal }
@@ -23,6 +22,7 @@ fn unsent(card: Card, refusal: Refusal) -> OutJudged
 }
 
 // A block that fails stays at its place, with its error bit.
+#[tactic(auto, unfolding(crate::specs::BlockOut::out_refused))]
 fn out_refused(card: Card, refusal: Refusal, bit: ErrorBit) -> OutJudged
     ensures { result ≡ out_refused card refusal bit }
 {
@@ -39,6 +39,7 @@ fn out_refused(card: Card, refusal: Refusal, bit: ErrorBit) -> OutJudged
     )
 }
 
+#[tactic(auto, unfolding(crate::specs::BlockOut::out_good))]
 fn out_good(card: Card, state: State, n: u16, sending: Sending) -> OutJudged
     ensures { result ≡ out_good card state n sending }
 {
@@ -50,7 +51,7 @@ fn out_good(card: Card, state: State, n: u16, sending: Sending) -> OutJudged
                 ..card
             },
             reply: Reply {
-                outcome: Outcome::Wrote(n as usize + beside(card.mode.spi)),
+                outcome: Ok(Some(n as usize + beside(card.mode.spi))),
                 sent: Sent::Nothing,
             },
         },
@@ -63,15 +64,13 @@ fn after_sent(outgoing: Outgoing, next: u32) -> State
     ensures { result ≡ after_sent outgoing next }
 {
     match outgoing {
-        Outgoing::One(_) => State::Tran,
         Outgoing::Many(_) => State::Data(Outgoing::Many(next)),
-        Outgoing::Protection(_) => State::Tran,
-        Outgoing::Csd => State::Tran,
-        Outgoing::Cid => State::Tran,
+        _ => State::Tran,
     }
 }
 
 // So many bytes of memory from an address on: 6, 18, 21.
+#[tactic(auto, unfolding(crate::specs::BlockOut::part_judged))]
 fn part_judged(card: Card, outgoing: Outgoing, at: u32, n: u16, room: usize) -> OutJudged
     ensures { result ≡ part_judged card outgoing at n room }
 {
@@ -79,11 +78,8 @@ fn part_judged(card: Card, outgoing: Outgoing, at: u32, n: u16, room: usize) -> 
         return unsent(card, Refusal::OutputShort);
     }
     let size = card_record::size(card.registers.groups);
-    let more = n as u32;
-    if size < more {
-        return out_refused(card, Refusal::PastEnd, ErrorBit::OutOfRange);
-    }
-    if size - more < at {
+    let more = u32::from(n);
+    if size < more || size - more < at {
         return out_refused(card, Refusal::PastEnd, ErrorBit::OutOfRange);
     }
     if card_record::crosses(at, n) {
@@ -94,6 +90,7 @@ fn part_judged(card: Card, outgoing: Outgoing, at: u32, n: u16, room: usize) -> 
 }
 
 // Bytes that no address is judged for, the protection bits or a register: 6.
+#[tactic(auto, unfolding(crate::specs::BlockOut::bytes_judged))]
 fn bytes_judged(card: Card, n: u16, sending: Sending, room: usize) -> OutJudged
     ensures { result ≡ bytes_judged card n sending room }
 {
@@ -108,21 +105,15 @@ fn bytes_judged(card: Card, n: u16, sending: Sending, room: usize) -> OutJudged
 fn outgoing_judged(card: Card, outgoing: Outgoing, room: usize) -> OutJudged
     ensures { result ≡ outgoing_judged card outgoing room }
 {
-    let at = match outgoing {
-        Outgoing::One(at) => at,
-        Outgoing::Many(at) => at,
-        Outgoing::Protection(group) => {
-            return bytes_judged(card, 4, Sending::Protection(group), room);
+    match outgoing {
+        Outgoing::One(at) | Outgoing::Many(at) => {
+            let n = card_record::read_length(card.link.length);
+            part_judged(card, outgoing, at, n, room)
         }
-        Outgoing::Csd => {
-            return bytes_judged(card, 16, Sending::Csd, room);
-        }
-        Outgoing::Cid => {
-            return bytes_judged(card, 16, Sending::Cid, room);
-        }
-    };
-    let n = card_record::read_length(card.link.length);
-    part_judged(card, outgoing, at, n, room)
+        Outgoing::Protection(group) => bytes_judged(card, 4, Sending::Protection(group), room),
+        Outgoing::Csd => bytes_judged(card, 16, Sending::Csd, room),
+        Outgoing::Cid => bytes_judged(card, 16, Sending::Cid, room),
+    }
 }
 
 // Whether anything is to go out at all: 15.
@@ -130,16 +121,8 @@ fn state_sends(card: Card, state: State, room: usize) -> OutJudged
     ensures { result ≡ state_sends card state room }
 {
     match state {
-        State::Idle => unsent(card, Refusal::NoBlock),
-        State::Ready => unsent(card, Refusal::NoBlock),
-        State::Ident => unsent(card, Refusal::NoBlock),
-        State::Stby => unsent(card, Refusal::NoBlock),
-        State::Tran => unsent(card, Refusal::NoBlock),
         State::Data(outgoing) => outgoing_judged(card, outgoing, room),
-        State::Rcv(_) => unsent(card, Refusal::NoBlock),
-        State::Prg => unsent(card, Refusal::NoBlock),
-        State::Dis => unsent(card, Refusal::NoBlock),
-        State::Ina => unsent(card, Refusal::NoBlock),
+        _ => unsent(card, Refusal::NoBlock),
     }
 }
 
@@ -150,19 +133,14 @@ fn send_part(memory: &[u8], at: usize, n: usize, out: &mut [u8]) -> bool
     ensures answer { result ≡ sent_whole (part_block memory.now at n) (length out.old) }
     ensures output { out.new ≡ block_laid false (part_block memory.now at n) out.old }
 {
-    if out.len() < 2 {
+    if out.len() < 2 || out.len() - 2 < n {
         return false;
     }
-    if out.len() - 2 < n {
+    if !store::read_part(memory, at, &mut out[..n]) {
         return false;
     }
-    let inside = store::read_part(memory, at, &mut out[0..n]);
-    if !inside {
-        return false;
-    }
-    let sum = crc::crc16(&out[0..n]);
-    out[n] = (sum / 256) as u8;
-    out[n + 1] = (sum % 256) as u8;
+    let sum = crc::crc16(&out[..n]);
+    out[n..n + 2].copy_from_slice(&sum.to_be_bytes());
     true
 }
 
@@ -172,24 +150,14 @@ fn send_bytes(bytes: &[u8], out: &mut [u8]) -> bool
     ensures answer { result ≡ sent_whole (block_of bytes.now) (length out.old) }
     ensures output { out.new ≡ block_laid false (block_of bytes.now) out.old }
 {
-    let written = wire::write_block(bytes, out);
-    match written {
-        Written::Bytes(_) => true,
-        Written::Refused(_) => false,
-    }
+    wire::write_block(bytes, out).is_ok()
 }
 
 // The protection bits as four bytes, highest first.
 fn protection_bytes(map: &[u8], group: u32) -> [u8; 4]
     ensures { result ≡ protection_bytes map.now group }
 {
-    let bits = store::protection_bits(map, group);
-    [
-        (bits / 16777216) as u8,
-        (bits / 65536 % 256) as u8,
-        (bits / 256 % 256) as u8,
-        (bits % 256) as u8,
-    ]
+    store::protection_bits(map, group).to_be_bytes()
 }
 
 // What was judged, payload and CRC16, at the front of the output: whether anything went out.
@@ -205,19 +173,10 @@ fn send_block(
 {
     match sending {
         Sending::Nothing => false,
-        Sending::Part { at, length } => send_part(memory, at as usize, length as usize, out),
-        Sending::Protection(group) => {
-            let four = protection_bytes(map, group);
-            send_bytes(&four, out)
-        }
-        Sending::Csd => {
-            let csd = registers.csd;
-            send_bytes(&csd, out)
-        }
-        Sending::Cid => {
-            let cid = registers.cid;
-            send_bytes(&cid, out)
-        }
+        Sending::Part { at, length } => send_part(memory, at as usize, usize::from(length), out),
+        Sending::Protection(group) => send_bytes(&protection_bytes(map, group), out),
+        Sending::Csd => send_bytes(&registers.csd, out),
+        Sending::Cid => send_bytes(&registers.cid, out),
     }
 }
 
@@ -232,15 +191,12 @@ fn send(card: Card, sending: Sending, memory: &[u8], map: &[u8], out: &mut [u8])
         return;
     }
     let sent = send_block(registers, sending, memory, map, &mut out[before..]);
-    if !sent {
-        return;
-    }
-    if card.mode.spi {
+    if sent && card.mode.spi {
         out[0] = START;
     }
 }
 
-// A block out at a card that is lent what is its own: judged, and then sent.
+// A block out at a card that is lent what is its own: judged, and then sent. Memory and map come apart, only to be read, as `mmc_parts_block_out` is lent them.
 pub fn given_out(card: Card, memory: &[u8], map: &[u8], out: &mut [u8]) -> Stepped
     ensures answer { result ≡ (state_sends card card.link.state (length out.old)).stepped }
     ensures output { out.new ≡ sent_out card (lent_of memory.now map.now) (state_sends card card.link.state (length out.old)).sending out.old }
@@ -258,9 +214,8 @@ pub fn block_out(card: Card, memory: &[u8], map: &[u8], out: &mut [u8]) -> Stepp
     ensures answer { result ≡ (out_judged card (seen (lent_of memory.now map.now)) (length out.old)).stepped }
     ensures output { out.new ≡ sent_out card (lent_of memory.now map.now) (out_judged card (seen (lent_of memory.now map.now)) (length out.old)).sending out.old }
 {
-    let lending = store::lent_check(memory.len(), map, card.registers.groups as usize);
-    match lending {
-        Lending::Right => given_out(card, memory, map, out),
-        Lending::Refused(refusal) => refuse(card, refusal),
+    match store::lent_check(memory.len(), map, card.registers.groups as usize) {
+        Ok(()) => given_out(card, memory, map, out),
+        Err(refusal) => refuse(card, refusal),
     }
 }

@@ -4,9 +4,9 @@ ghost use Rattle.std.specs.Prelude.{◌≡◌, ◌≤◌, length};
 ghost use Rattle.card_blocks.specs.BlockIn.{block_replied};
 ghost use Rattle.card_blocks.specs.Framing.{beside, started, unstarted, crc_right, response_to};
 
-use crate::{Outcome, Reply, Stepped};
+use crate::{Reply, Stepped};
+use base::Refusal;
 use card_record::{Card, Mode, Sent};
-use wire::Checked;
 
 pub const START: u8 = 0xFE;
 
@@ -25,26 +25,17 @@ pub fn beside(spi: bool) -> usize
 pub fn started(spi: bool, block: &[u8]) -> bool
     ensures { result ≡ started spi block.now }
 {
-    if !spi {
-        return true;
-    }
-    if block.len() < 1 {
-        return false;
-    }
-    block[0] == START
+    !spi || block.first() == Some(&START)
 }
 
 // A block without its start byte.
 pub fn unstarted(spi: bool, block: &[u8]) -> &[u8]
     ensures { result.now ≡ unstarted spi block.now }
 {
-    if !spi {
-        return block;
+    match block {
+        [_, rest @ ..] if spi => rest,
+        _ => block,
     }
-    if block.len() < 1 {
-        return block;
-    }
-    &block[1..]
 }
 
 // Whether the CRC16 of a payload of 1 to 2,048 bytes lets it pass.
@@ -52,38 +43,24 @@ pub fn crc_right(mode: Mode, block: &[u8]) -> bool
     requires { (3 ≤ length block.now) × (length block.now ≤ 2050) }
     ensures { result ≡ crc_right mode block.now }
 {
-    if mode.spi {
-        if !mode.checks {
-            return true;
-        }
-    }
-    let checked = wire::check_block(block);
-    match checked {
-        Checked::Payload(_) => true,
-        Checked::Refused(_) => false,
-    }
+    mode.spi && !mode.checks || wire::check_block(block).is_ok()
 }
 
-fn response_to(spi: bool, outcome: Outcome) -> Sent
+fn response_to(spi: bool, outcome: Result<Option<usize>, Refusal>) -> Sent
     ensures { result ≡ response_to spi outcome }
 {
     if !spi {
         return Sent::Nothing;
     }
     match outcome {
-        Outcome::Done => Sent::DataResponse(ACCEPTED),
-        Outcome::Wrote(_) => Sent::Nothing,
-        Outcome::Refused(refusal) => {
-            if base::number(refusal) == 17 {
-                return Sent::DataResponse(CRC_WRONG);
-            }
-            Sent::Nothing
-        }
+        Ok(None) => Sent::DataResponse(ACCEPTED),
+        Err(Refusal::BlockCrc) => Sent::DataResponse(CRC_WRONG),
+        _ => Sent::Nothing,
     }
 }
 
 // What became of a block that was awaited, with its data response.
-pub fn reply(card: Card, outcome: Outcome) -> Stepped
+pub fn reply(card: Card, outcome: Result<Option<usize>, Refusal>) -> Stepped
     ensures { result ≡ block_replied card outcome }
 {
     let sent = response_to(card.mode.spi, outcome);

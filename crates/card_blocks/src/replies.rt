@@ -2,7 +2,7 @@
 ghost use Rattle.std.specs.Prelude.{◌≡◌};
 ghost use Rattle.card_blocks.specs.Replies.{refused, done};
 
-use crate::{Outcome, Reply, Stepped};
+use crate::{Reply, Stepped};
 use base::Refusal;
 use card_record::{Card, Sent};
 
@@ -13,7 +13,7 @@ pub fn refuse(card: Card, refusal: Refusal) -> Stepped
     Stepped {
         card,
         reply: Reply {
-            outcome: Outcome::Refused(refusal),
+            outcome: Err(refusal),
             sent: Sent::Nothing,
         },
     }
@@ -26,7 +26,7 @@ pub fn done(card: Card) -> Stepped
     Stepped {
         card,
         reply: Reply {
-            outcome: Outcome::Done,
+            outcome: Ok(None),
             sent: Sent::Nothing,
         },
     }

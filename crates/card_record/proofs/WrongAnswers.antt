@@ -51,7 +51,7 @@ use Rattle.card_record.specs.Power.{fresh_link, powered_on, worked}
 use Rattle.card_record.specs.Record.{size_of, csd_protects, length_read, crosses}
 use Rattle.card_record.specs.declared.Card.{Card}
 use Rattle.card_record.specs.declared.Made.{Made}
-use Rattle.card_record.specs.declared.Making.TheVariants.{Done, Refused}
+use Rattle.std.specs.Prelude.{Ok, Err}
 
 -- a register of 15 zeros and the byte that closes them
 abbrev zeros : List ℕ
@@ -152,23 +152,23 @@ unfolding worked
 worked_clears e = omega arith
 
 -- ---- making
-made_8191 : (made 0x00FF8000 [] 8191).making ≡ Done → ⊥
+made_8191 : (made 0x00FF8000 [] 8191).making ≡ Ok tt → ⊥
 unfolding made_of
 made_8191 e = clash cc
 
-made_17 : (made 0x00FF8000 (replicate 17 5) 8192).making ≡ Done → ⊥
+made_17 : (made 0x00FF8000 (replicate 17 5) 8192).making ≡ Ok tt → ⊥
 unfolding made_of password_made lock_made_of entries_right register_right last_byte crc7_of remainder divide bits
 made_17 e = clash cc
 
-made_by_high_bits : (made 0x80000000 [] 8192).making ≡ Done → ⊥
+made_by_high_bits : (made 0x80000000 [] 8192).making ≡ Ok tt → ⊥
 unfolding made_of entries_right register_right last_byte crc7_of remainder divide bits
 made_by_high_bits e = clash cc
 
-made_map_first : (made_of zeros zeros 0x00FF8000 [] 8191 (2 ∷ [])).making ≡ Refused (by 8) → ⊥
+made_map_first : (made_of zeros zeros 0x00FF8000 [] 8191 (2 ∷ [])).making ≡ Err (by 8) → ⊥
 unfolding made_of
 made_map_first e = clash cc
 
-made_csd_unread : (made_of zeros (replicate 16 0) 0x00FF8000 [] 8192 (0 ∷ [])).making ≡ Done → ⊥
+made_csd_unread : (made_of zeros (replicate 16 0) 0x00FF8000 [] 8192 (0 ∷ [])).making ≡ Ok tt → ⊥
 unfolding made_of entries_right register_right last_byte crc7_of remainder divide bits
 made_csd_unread e = clash cc
 
@@ -180,7 +180,7 @@ made_by_csd : (made_of zeros of_kilobytes 0x00FF8000 [] 8192 (0 ∷ [])).card.li
 unfolding made_of password_made lock_made_of fresh_link entries_right register_right last_byte crc7_of remainder divide bits
 made_by_csd e = omega arith
 
-made_never : (made 0x00FF8000 [] 8192).making ≡ Refused (by 7) → ⊥
+made_never : (made 0x00FF8000 [] 8192).making ≡ Err (by 7) → ⊥
 unfolding made_of password_made lock_made_of entries_right register_right last_byte crc7_of remainder divide bits
 made_never e = clash cc
 

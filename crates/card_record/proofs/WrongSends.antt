@@ -12,11 +12,11 @@ use mathlib.Core.Path.{◌≡◌}
 use native.Mathlib.Omega.{arith}
 use lib.ListN.{length, get_or, replicate}
 use Rattle.base.proofs.Cases.{clash}
-use Rattle.base.specs.declared.Written.TheVariants.{Bytes}
 use Rattle.card_record.specs.declared.Registers.{Registers}
 use Rattle.wire.specs.Responses.{r2_frame, r3_frame}
 use Rattle.card_record.specs.Sending.{sent_bytes, sent_written}
 use Rattle.card_record.specs.declared.Sent.TheVariants.{Nothing, Status, Cid, Csd, Ocr, SpiR2, SpiR3}
+use Rattle.std.specs.Prelude.{Ok}
 
 abbrev registers : Registers
 registers = record { cid = replicate 16 1; csd = replicate 16 2; ocr = 0x00FF8000; groups = 1 }
@@ -49,10 +49,10 @@ spi_r2_alone : length (sent_bytes registers (SpiR2 1 2)) ≡ 1 → ⊥
 unfolding sent_bytes
 spi_r2_alone e = omega arith
 
-cid_in_16 : sent_written registers Cid (replicate 16 0) ≡ Bytes 16 → ⊥
+cid_in_16 : sent_written registers Cid (replicate 16 0) ≡ Ok 16 → ⊥
 unfolding sent_written sent_bytes r2_frame
 cid_in_16 e = clash cc
 
-index_64 : sent_written registers (Status 64 0) (replicate 6 0) ≡ Bytes 6 → ⊥
+index_64 : sent_written registers (Status 64 0) (replicate 6 0) ≡ Ok 6 → ⊥
 unfolding sent_written
 index_64 e = clash cc

@@ -1,14 +1,12 @@
 -- Document 01, "Refusal numbers": "Making a card checks 7, 8, 9 (CID, then CSD), 10, 11; a made card is as after power-on, its memory and
 -- map untouched."
 -- Assumes nothing.
-use Rattle.std.specs.Prelude.{not, List, ℕ, ◌/◌, eqb, replicate}
+use Rattle.std.specs.Prelude.{not, List, ℕ, ◌/◌, eqb, replicate, Result, Ok, Err}
 use Rattle.base.specs.Choice.{unless}
 use Rattle.base.specs.Refusals.{by}
 use Rattle.base.specs.Sizes.{protection_group_size}
 use Rattle.base.specs.declared.Refusal.{Refusal}
 use Rattle.lock.specs.Passwords.{no_password, lock_made as lock_made_of}
-use Rattle.lock.specs.declared.Making.{Making as LockMaking}
-use Rattle.lock.specs.declared.Making.TheVariants.{Done as LockDone, Refused as LockRefused}
 use Rattle.lock.specs.declared.Lock.{Lock}
 use Rattle.moves.specs.Rows.{window}
 use Rattle.states.specs.declared.State.TheVariants.{Ina}
@@ -20,7 +18,6 @@ use Rattle.wire.specs.Responses.{register_right}
 use Rattle.card_record.specs.Power.{fresh_link, mmc_mode}
 use Rattle.card_record.specs.declared.Card.{Card}
 use Rattle.card_record.specs.declared.Made.{Made}
-use Rattle.card_record.specs.declared.Making.TheVariants.{Done, Refused}
 use Rattle.card_record.specs.declared.Registers.{Registers}
 
 -- "Refusals give a number and no value": the one record that a refused make returns, Inactive and all zeros
@@ -34,15 +31,15 @@ refused_make =
     }
 
 abbrev pub failed_make : Refusal → Made
-failed_make refusal = record { card = refused_make; making = Refused refusal }
+failed_make refusal = record { card = refused_make; making = Err refusal }
 
 -- 11, which the password record itself checks: "a made card is as after power-on"
-abbrev pub locked_by : Registers → Lock → LockMaking → Made
-locked_by registers lock LockDone = record { card = record { registers = registers; lock = lock; link = fresh_link; mode = mmc_mode }; making = Done }
-locked_by registers lock (LockRefused refusal) = failed_make refusal
+abbrev pub locked_by : Registers → Result Lock Refusal → Made
+locked_by registers (Ok lock) = record { card = record { registers = registers; lock = lock; link = fresh_link; mode = mmc_mode }; making = Ok tt }
+locked_by registers (Err refusal) = failed_make refusal
 
 unfoldable pub password_made : Registers → List ℕ → Made
-password_made registers password = locked_by registers (lock_made_of password).lock (lock_made_of password).making
+password_made registers password = locked_by registers (lock_made_of password)
 
 -- a card of a CID, a CSD, an OCR and a password, lent a memory of so many bytes and a map
 unfoldable pub made_of : List ℕ → List ℕ → ℕ → List ℕ → ℕ → List ℕ → Made

@@ -1,13 +1,13 @@
 -- Document 01, "Frames and blocks", and document 02, request 1: the bytes of what a card sends.
 -- Assumes nothing.
-use Rattle.std.specs.Prelude.{List, [], ◌∷◌, ℕ, ◌≤◌, take, drop}
+use Rattle.std.specs.Prelude.{List, [], ◌∷◌, ℕ, ◌≤◌, take, drop, Result}
 use Rattle.base.specs.Output.{fits}
-use Rattle.base.specs.declared.Written.{Written}
 use Rattle.card_record.specs.declared.Sent.{Sent}
 use Rattle.card_record.specs.declared.Sent.TheVariants.{Nothing, Status, Cid, Csd, Ocr, SpiR1, SpiR2, SpiR3, DataResponse}
 use Rattle.card_record.specs.declared.Registers.{Registers}
 use Rattle.wire.specs.Frames.{indexed}
 use Rattle.wire.specs.Responses.{r1_frame, r2_frame, r3_frame}
+use Rattle.base.specs.declared.Refusal.{Refusal}
 
 -- in SPI "R3 as five": R1's byte, and 01's "four OCR bytes with bit 31 set"
 abbrev pub spi_r3_bytes : ℕ → ℕ → List ℕ
@@ -27,7 +27,7 @@ sent_bytes registers (SpiR3 first) = spi_r3_bytes first registers.ocr
 sent_bytes registers (DataResponse response) = response ∷ []
 
 -- as the writers answer: "Writing a frame: 4, 6"
-unfoldable pub sent_written : Registers → Sent → List ℕ → Written
+unfoldable pub sent_written : Registers → Sent → List ℕ → Result ℕ Refusal
 sent_written registers Nothing out = fits [] out
 sent_written registers (Status index status) out = indexed index (sent_bytes registers (Status index status)) out
 sent_written registers Cid out = fits (sent_bytes registers Cid) out

@@ -3,7 +3,7 @@
 // done; and what it sends of it. Any value of the record may come in, so no call has a `requires`.
 //
 // Offers: `Registers`, `Link`, `Mode`, `Card`; `size`, `csd_protects`, `read_length`, `crosses`, `fresh`,
-// `mmc_mode`; `power_on`, `work_done`; `Making`, `Made`, `make`, `refused_make`; `Sent`, `write_sent`.
+// `mmc_mode`; `power_on`, `work_done`; `Made`, `make`, `refused_make`; `Sent`, `write_sent`.
 #![tactic(auto)]
 
 mod sending;
@@ -42,7 +42,7 @@ pub struct Link {
 }
 
 // How a card is spoken to: in MMC mode or in SPI, and there whether it checks CRCs. In MMC mode it
-// always does, and `checks` is off.
+// always does, and `checks` is off. Two flags, since C tells any two, and both come back (`mode_of`).
 #[derive(Clone, Copy)]
 pub struct Mode {
     pub spi: bool,
@@ -57,18 +57,11 @@ pub struct Card {
     pub mode: Mode,
 }
 
-// Whether a card was made, or the refusal.
-#[derive(Clone, Copy)]
-pub enum Making {
-    Done,
-    Refused(Refusal),
-}
-
-// A made card; a refused make gives one fixed record.
+// A made card, or the refusal and one fixed record: document 01 has a refused make leave that one.
 #[derive(Clone, Copy)]
 pub struct Made {
     pub card: Card,
-    pub making: Making,
+    pub making: Result<(), Refusal>,
 }
 
 // What a card sends: nothing; in MMC mode R1, R2 with the CID or the CSD, R3; in SPI R1, R2, R3 with
@@ -98,7 +91,7 @@ const READ_BLOCK: u64 = base::READ_BLOCK as u64;
 pub fn size(groups: u16) -> u32
     ensures answer { result ≡ size_of groups }
 {
-    groups as u32 * PROTECTION_GROUP
+    u32::from(groups) * PROTECTION_GROUP
 }
 
 // Whether the CSD protects the whole card: its bit 13 or 12.
@@ -106,33 +99,29 @@ pub fn csd_protects(csd: [u8; 16]) -> bool
     ensures answer { result ≡ csd_protects csd }
 {
     let byte = csd[14];
-    if byte / 32 % 2 == 1 {
-        return true;
-    }
-    byte / 16 % 2 == 1
+    byte / 32 % 2 == 1 || byte / 16 % 2 == 1
 }
 
 // The block length as it is used: one that no CMD16 sets reads as the longest.
 pub fn read_length(length: u16) -> u16
     ensures answer { result ≡ length_read length }
 {
-    if length < 1 {
-        return LONGEST_BLOCK;
+    if length < 1 || LONGEST_BLOCK < length {
+        LONGEST_BLOCK
+    } else {
+        length
     }
-    if LONGEST_BLOCK < length {
-        return LONGEST_BLOCK;
-    }
-    length
 }
 
 // Whether a block of so many bytes, at least one, lies in two physical read blocks.
 pub fn crosses(at: u32, length: u16) -> bool
     ensures answer { result ≡ crosses at length }
 {
-    READ_BLOCK < at as u64 % READ_BLOCK + length as u64
+    READ_BLOCK < u64::from(at) % READ_BLOCK + u64::from(length)
 }
 
 // The link after power-on and after CMD0.
+#[tactic(auto, unfolding(crate::specs::Power::fresh_link))]
 pub fn fresh() -> Link
     ensures answer { result ≡ fresh_link }
 {
@@ -156,6 +145,7 @@ pub fn mmc_mode() -> Mode
 }
 
 // Power-on, from any state and out of SPI: never refused.
+#[tactic(auto, unfolding(crate::specs::Power::powered_on))]
 pub fn power_on(card: Card) -> Card
     ensures answer { result ≡ powered_on card }
 {
@@ -171,29 +161,21 @@ fn worked_state(state: State) -> State
     ensures { result ≡ worked_state state }
 {
     match state {
-        State::Idle => state,
-        State::Ready => state,
-        State::Ident => state,
-        State::Stby => state,
-        State::Tran => state,
-        State::Data(_) => state,
-        State::Rcv(_) => state,
         State::Prg => State::Tran,
         State::Dis => State::Stby,
-        State::Ina => state,
+        _ => state,
     }
 }
 
 // Work done: never refused.
+#[tactic(auto, unfolding(crate::specs::Power::worked))]
 pub fn work_done(card: Card) -> Card
     ensures answer { result ≡ worked card }
 {
     let link = card.link;
-    let state = link.state;
-    let next = worked_state(state);
     Card {
         link: Link {
-            state: next,
+            state: worked_state(link.state),
             ..link
         },
         ..card
@@ -201,6 +183,7 @@ pub fn work_done(card: Card) -> Card
 }
 
 // The record that a refused make returns, and that a place of a bus holds where no card is.
+#[tactic(auto, unfolding(crate::specs::Making::refused_make))]
 pub fn refused_make() -> Card
     ensures answer { result ≡ refused_make }
 {
@@ -228,11 +211,12 @@ fn fail(refusal: Refusal) -> Made
 {
     Made {
         card: refused_make(),
-        making: Making::Refused(refusal),
+        making: Err(refusal),
     }
 }
 
 // A card made with a CID, a CSD, an OCR and a password, and lent a memory and a map: 7, 8, 9, 10, 11.
+#[tactic(auto, unfolding(crate::specs::Making::made_of))]
 pub fn make(
     cid: [u8; 16],
     csd: [u8; 16],
@@ -250,10 +234,7 @@ pub fn make(
     if !store::map_right(map, groups) {
         return fail(Refusal::Map);
     }
-    if !wire::register_right(cid) {
-        return fail(Refusal::RegisterLastByte);
-    }
-    if !wire::register_right(csd) {
+    if !wire::register_right(cid) || !wire::register_right(csd) {
         return fail(Refusal::RegisterLastByte);
     }
     if ocr % 0x100_0000 == 0 {
@@ -271,22 +252,20 @@ pub fn make(
 }
 
 // The last of the checks of making, 11, and the card.
+#[tactic(auto, unfolding(crate::specs::Making::password_made))]
 fn with_password(registers: Registers, password: &[u8]) -> Made
     ensures { result ≡ password_made registers password.now }
 {
-    let made = lock::make(password);
-    let lock = made.lock;
-    let making = made.making;
-    match making {
-        lock::Making::Done => Made {
+    match lock::make(password) {
+        Ok(lock) => Made {
             card: Card {
                 registers,
                 lock,
                 link: fresh(),
                 mode: mmc_mode(),
             },
-            making: Making::Done,
+            making: Ok(()),
         },
-        lock::Making::Refused(refusal) => fail(refusal),
+        Err(refusal) => fail(refusal),
     }
 }

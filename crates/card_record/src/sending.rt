@@ -6,52 +6,36 @@ ghost use Rattle.base.specs.Output.{fits, laid};
 ghost use Rattle.card_record.specs.Sending.{spi_r3_bytes, sent_bytes, sent_written};
 
 use crate::{Registers, Sent};
-use base::{Refusal, Written, copy};
+use base::{Refusal, lay};
 use wire::{R1, R2, R3};
 
-// Bytes at the front of the output: 6.
-fn lay(bytes: &[u8], out: &mut [u8]) -> Written
-    ensures answer { result ≡ fits bytes.now out.old }
-    ensures output { out.new ≡ laid result bytes.now out.old }
-{
-    let n = bytes.len();
-    if out.len() < n {
-        return Written::Refused(Refusal::OutputShort);
-    }
-    copy(bytes, out, 0);
-    Written::Bytes(n)
-}
-
 // R3 of SPI: R1's byte, and the OCR as R3 of MMC mode has it.
-fn write_spi_r3(first: u8, ocr: u32, out: &mut [u8]) -> Written
+#[tactic(auto, unfolding(wire::specs::Responses::r3_frame))]
+fn write_spi_r3(first: u8, ocr: u32, out: &mut [u8]) -> Result<usize, Refusal>
     ensures answer { result ≡ fits (spi_r3_bytes first ocr) out.old }
     ensures output { out.new ≡ laid result (spi_r3_bytes first ocr) out.old }
 {
-    let bytes = [
-        first,
-        (128 + ocr / 16777216 % 128) as u8,
-        (ocr / 65536 % 256) as u8,
-        (ocr / 256 % 256) as u8,
-        (ocr % 256) as u8,
-    ];
-    lay(&bytes, out)
+    let [a, b, c, d] = wire::ocr_bytes(ocr);
+    lay(&[first, a, b, c, d], out)
 }
 
 // What a card sends, written as the writers of `wire` write it.
-pub fn write_sent(registers: Registers, sent: Sent, out: &mut [u8]) -> Written
+#[tactic(auto, unfolding(crate::specs::Sending::sent_bytes, crate::specs::Sending::sent_written))]
+pub fn write_sent(registers: Registers, sent: Sent, out: &mut [u8]) -> Result<usize, Refusal>
     ensures answer { result ≡ sent_written registers sent out.old }
     ensures output { out.new ≡ laid result (sent_bytes registers sent) out.old }
 {
     match sent {
-        Sent::Nothing => Written::Bytes(0),
+        Sent::Nothing => Ok(0),
         Sent::Status { index, status } => wire::write_r1(R1 { index, status }, out),
+        // A register is named first: the borrow checker takes an array into a literal by a variable alone.
         Sent::Cid => {
-            let cid = registers.cid;
-            wire::write_r2(R2 { register: cid }, out)
+            let register = registers.cid;
+            wire::write_r2(R2 { register }, out)
         }
         Sent::Csd => {
-            let csd = registers.csd;
-            wire::write_r2(R2 { register: csd }, out)
+            let register = registers.csd;
+            wire::write_r2(R2 { register }, out)
         }
         Sent::Ocr => wire::write_r3(R3 { ocr: registers.ocr }, out),
         Sent::SpiR1(first) => lay(&[first], out),

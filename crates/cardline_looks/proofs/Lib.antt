@@ -1,3 +1,4 @@
+pub mod Bytes
 pub mod Lengths
 pub mod Writers
 pub mod WrongAnswers

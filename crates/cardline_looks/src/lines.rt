@@ -6,15 +6,17 @@ ghost use Rattle.cardline_looks.specs.Lines.{line_room, number_line, refused_lin
 ghost use Rattle.text.specs.Writing.{Line};
 
 use base::Refusal;
-use text::lines::{ending, head, number};
+use text::page::Page;
 
 // `N WORD K HEX`.
 pub fn say_number(count: u64, word: &[u8], n: u64, bytes: &[u8], out: &mut [u8]) -> usize
     ensures line { Line (line_room (length word.now) (length bytes.now)) out.old out.new result (number_line count word.now n bytes.now) }
 {
-    let a = head(count, word, out);
-    let b = number(n, out, a);
-    ending(bytes, out, b)
+    let mut page = Page { out, at: 0 };
+    page.head(count, word);
+    page.number(n);
+    page.ending(bytes);
+    page.at
 }
 
 // The line of a refused call, with the bytes of what it was lent.

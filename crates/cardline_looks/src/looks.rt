@@ -2,66 +2,57 @@
 //
 // Offers: `look_line`, `set_map`, `sizes_looked`.
 ghost use Rattle.std.specs.Prelude.{◌≡◌, length};
-ghost use Rattle.status.specs.Status.{flag};
 ghost use Rattle.cardline_looks.specs.Lines.{line_room, roomy};
 ghost use Rattle.cardline_looks.specs.Looks.{link_text, flags_text, card_text, mode_text, memory_text, look_text, poked, map_looked, sizes_looked};
 ghost use Rattle.store.specs.Lent.{lent_of};
-ghost use Rattle.text.specs.Writing.{Put, Line};
+ghost use Rattle.text.specs.Pages.{Writes};
+ghost use Rattle.text.specs.Writing.{Line};
 
 use card_record::{Link, Mode};
 use cardline_script::{Looking, Sizes};
 use status::Errors;
-use text::lines::{ending, head, hexed, number, put, say};
+use text::lines::say;
+use text::page::Page;
 use text::parts::part;
 
-fn link_text(link: Link, out: &mut [u8], at: usize) -> usize
-    ensures { Put out.old out.new at result (link_text link) }
+fn link_text(link: Link, page: &mut Page)
+    ensures { Writes page.old page.new (link_text link) }
 {
     let state = link.state;
     let column = states::column_of(state);
-    let a = number(states::number(column) as u64, out, at);
-    let address = [(link.address / 256) as u8, (link.address % 256) as u8];
-    let b = hexed(&address, out, a);
-    let length = [(link.length / 256) as u8, (link.length % 256) as u8];
-    hexed(&length, out, b)
+    page.number(states::number(column) as u64);
+    page.hexed(&link.address.to_be_bytes());
+    page.hexed(&link.length.to_be_bytes());
 }
 
-fn flag(is: bool) -> u64
-    ensures { result ≡ flag is }
+fn flags_text(locked: bool, errors: Errors, page: &mut Page)
+    ensures { Writes page.old page.new (flags_text locked errors) }
 {
-    if is { 1 } else { 0 }
-}
-
-fn flags_text(locked: bool, errors: Errors, out: &mut [u8], at: usize) -> usize
-    ensures { Put out.old out.new at result (flags_text locked errors) }
-{
-    let a = number(flag(locked), out, at);
+    page.number(u64::from(locked));
     let bits = status::pending(errors);
-    let four = [
-        (bits / 16777216) as u8,
-        (bits / 65536 % 256) as u8,
-        (bits / 256 % 256) as u8,
-        (bits % 256) as u8,
-    ];
-    hexed(&four, out, a)
+    page.hexed(&bits.to_be_bytes());
 }
 
 fn card_line(count: u64, link: Link, locked: bool, map: &[u8], out: &mut [u8]) -> usize
     ensures { Line (line_room 44 (length map.now)) out.old out.new result (card_text count link locked map.now) }
 {
-    let a = head(count, b"card", out);
-    let b = link_text(link, out, a);
-    let c = flags_text(locked, link.errors, out, b);
-    ending(map, out, c)
+    let mut page = Page { out, at: 0 };
+    page.head(count, b"card");
+    link_text(link, &mut page);
+    flags_text(locked, link.errors, &mut page);
+    page.ending(map);
+    page.at
 }
 
 fn mode_line(count: u64, mode: Mode, out: &mut [u8]) -> usize
     ensures { Line roomy out.old out.new result (mode_text count mode) }
 {
-    let a = head(count, b"spi", out);
-    let b = number(flag(mode.spi), out, a);
-    let c = number(flag(mode.checks), out, b);
-    put(b"\n", out, c)
+    let mut page = Page { out, at: 0 };
+    page.head(count, b"spi");
+    page.number(u64::from(mode.spi));
+    page.number(u64::from(mode.checks));
+    page.put(b"\n");
+    page.at
 }
 
 fn memory_line(count: u64, from: u32, n: u16, memory: &[u8], out: &mut [u8]) -> usize
@@ -98,18 +89,17 @@ pub fn look_line(
             )
         }
         Looking::Lend(_) => say(count, b"lent", b"", out),
-        Looking::Poke { entry: _, value: _ } => say(count, b"poked", b"", out),
+        Looking::Poke { .. } => say(count, b"poked", b"", out),
     }
 }
 
+#[tactic(auto, unfolding(crate::specs::Looks::poked))]
 fn poke(own: Sizes, entry: u8, value: u8, map: &mut [u8])
     ensures { map.new ≡ poked own entry value map.old }
 {
     let at = entry as usize;
-    if entry < own.map {
-        if at < map.len() {
-            map[at] = value;
-        }
+    if entry < own.map && at < map.len() {
+        map[at] = value;
     }
 }
 
@@ -117,12 +107,8 @@ fn poke(own: Sizes, entry: u8, value: u8, map: &mut [u8])
 pub fn set_map(own: Sizes, looking: Looking, map: &mut [u8])
     ensures map { map.new ≡ map_looked own looking map.old }
 {
-    match looking {
-        Looking::Card => {}
-        Looking::Mode => {}
-        Looking::Memory { from: _, length: _ } => {}
-        Looking::Lend(_) => {}
-        Looking::Poke { entry, value } => poke(own, entry, value, map),
+    if let Looking::Poke { entry, value } = looking {
+        poke(own, entry, value, map);
     }
 }
 
@@ -130,11 +116,8 @@ pub fn set_map(own: Sizes, looking: Looking, map: &mut [u8])
 pub fn sizes_looked(looking: Looking, lent: Sizes) -> Sizes
     ensures answer { result ≡ sizes_looked looking lent }
 {
-    match looking {
-        Looking::Card => lent,
-        Looking::Mode => lent,
-        Looking::Memory { from: _, length: _ } => lent,
-        Looking::Lend(sizes) => sizes,
-        Looking::Poke { entry: _, value: _ } => lent,
+    if let Looking::Lend(sizes) = looking {
+        return sizes;
     }
+    lent
 }

@@ -7,19 +7,24 @@ ghost use Rattle.cardline_looks.specs.Wires.{written_text, write_frame_text, wri
 ghost use Rattle.text.specs.Writing.{Line};
 
 use crate::lines::refused;
-use base::{Written, fill};
+use base::{Refusal, fill};
 use cardline_script::Wiring;
 use text::lines::say;
 use text::parts::part;
-use wire::Checked;
 
 // What a writer answered, with the whole output that it was lent.
-fn written_line(count: u64, word: &[u8], answer: Written, output: &[u8], out: &mut [u8]) -> usize
+fn written_line(
+    count: u64,
+    word: &[u8],
+    answer: Result<usize, Refusal>,
+    output: &[u8],
+    out: &mut [u8],
+) -> usize
     ensures { Line (line_room (7 + length word.now) (length output.now)) out.old out.new result (written_text count word.now answer output.now) }
 {
     match answer {
-        Written::Bytes(_) => say(count, word, output, out),
-        Written::Refused(refusal) => refused(count, refusal, output, out),
+        Ok(_) => say(count, word, output, out),
+        Err(refusal) => refused(count, refusal, output, out),
     }
 }
 
@@ -39,12 +44,12 @@ fn block_into(count: u64, payload: &[u8], output: &mut [u8], out: &mut [u8]) -> 
     written_line(count, b"data", answer, output, out)
 }
 
-fn checked_line(count: u64, checked: Checked, out: &mut [u8]) -> usize
+fn checked_line(count: u64, checked: Result<usize, Refusal>, out: &mut [u8]) -> usize
     ensures { Line roomy out.old out.new result (checked_text count checked) }
 {
     match checked {
-        Checked::Payload(_) => say(count, b"good", b"", out),
-        Checked::Refused(refusal) => refused(count, refusal, b"", out),
+        Ok(_) => say(count, b"good", b"", out),
+        Err(refusal) => refused(count, refusal, b"", out),
     }
 }
 

@@ -17,41 +17,41 @@ use Rattle.cardline_records.specs.Record.{asked_text, asked_buffers, asked_said,
 use Rattle.cardline_records.specs.Transcript.{Kept, kept, record_step, piece_of}
 use Rattle.cardline_records.specs.declared.Progress.{Progress}
 use Rattle.card_record.specs.declared.Card.{Card}
-use Rattle.card_record.specs.declared.Making.{Making as Outcome}
-use Rattle.card_record.specs.declared.Making.TheVariants.{Done, Refused}
-use Rattle.cardline_script.specs.Reading.{asked_of}
-use Rattle.cardline_script.specs.declared.Asked.{Asked}
-use Rattle.cardline_script.specs.declared.Asked.TheVariants as asked
+use Rattle.cardline_script.specs.Reading.{Read, asked_of}
+use Rattle.cardline_script.specs.declared.Asked.TheVariants.{Make, Go}
+use Rattle.cardline_script.specs.declared.Halt.TheVariants as halt
 use Rattle.cardline_script.specs.declared.Making.{Making}
 use Rattle.playing.proofs.Turns.{kinds, none, goes, stops, waits}
 use Rattle.playing.specs.Playing.{Played, behind, unplayed}
 use Rattle.playing.specs.declared.Then.TheVariants.{Goes, Stops, Waits, NoRoom}
 use Rattle.store.specs.Lent.{Lent}
+use Rattle.std.specs.Prelude.{Result, Ok, Err}
+use Rattle.base.specs.declared.Refusal.{Refusal}
 
 -- a make does not wait, and where there is room there is room
-make_settled : (w : Progress) (m : Making) (card : Card) (outcome : Outcome) (n : ℕ)
+make_settled : (w : Progress) (m : Making) (card : Card) (outcome : Result Unit Refusal) (n : ℕ)
     → ((make_said w m card outcome n).then ≡ Waits → ⊥) × ((make_said w m card outcome n).then ≡ NoRoom → ⊥)
-make_settled w m card Done n = (λ e. clash cc, λ e. clash cc)
-make_settled w m card (Refused refusal) n = (λ e. clash cc, λ e. clash cc)
+make_settled w m card (Ok tt) n = (λ e. clash cc, λ e. clash cc)
+make_settled w m card (Err refusal) n = (λ e. clash cc, λ e. clash cc)
 
 module _ (s : List ℕ) (lent : Lent) (w : Progress) (n : ℕ) where
   -- a record that is waited for prints nothing and changes nothing
-  Idle : Asked → Type 0
+  Idle : Read → Type 0
   Idle a = (asked_text w a s lent ≡ []) × (asked_buffers w a s lent ≡ lent) × ((asked_said w a s lent n).progress ≡ w)
 
-  idle : (a : Asked) → (asked_said w a s lent n).then ≡ Waits → Idle a
+  idle : (a : Read) → (asked_said w a s lent n).then ≡ Waits → Idle a
   unfolding Idle asked_text asked_buffers asked_said
-  idle asked.More e = (refl, refl, refl)
-  idle (asked.Stop stop) e = clash cc
-  idle (asked.Make making) e = absurd ((make_settled w making (card_made making s lent).card (card_made making s lent).making n).0 e)
-  idle (asked.Go going) e = clash cc
+  idle (Err halt.More) e = (refl, refl, refl)
+  idle (Err (halt.Stop stop)) e = clash cc
+  idle (Ok (Make making)) e = absurd ((make_settled w making (card_made making s lent).card (card_made making s lent).making n).0 e)
+  idle (Ok (Go going)) e = clash cc
 
-  roomed : {P : Type 0} (a : Asked) → (asked_said w a s lent n).then ≡ NoRoom → P
+  roomed : {P : Type 0} (a : Read) → (asked_said w a s lent n).then ≡ NoRoom → P
   unfolding asked_said
-  roomed asked.More e = clash cc
-  roomed (asked.Stop stop) e = clash cc
-  roomed (asked.Make making) e = absurd ((make_settled w making (card_made making s lent).card (card_made making s lent).making n).1 e)
-  roomed (asked.Go going) e = clash cc
+  roomed (Err halt.More) e = clash cc
+  roomed (Err (halt.Stop stop)) e = clash cc
+  roomed (Ok (Make making)) e = absurd ((make_settled w making (card_made making s lent).card (card_made making s lent).making n).1 e)
+  roomed (Ok (Go going)) e = clash cc
 
 -- a turn, with room for its line
 module _ (w : Progress) (from to : ℕ) (buffer : List ℕ) (lent : Lent) where
@@ -59,7 +59,7 @@ module _ (w : Progress) (from to : ℕ) (buffer : List ℕ) (lent : Lent) where
   hand = at_hand from to buffer
 
   -- what the record at the front asks for, and the length of its line
-  abbrev held : Asked
+  abbrev held : Read
   held = asked_of w.made hand
 
   abbrev long : ℕ

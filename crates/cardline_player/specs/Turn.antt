@@ -4,8 +4,9 @@ use Rattle.std.specs.Prelude.{List, ℕ, ◌+◌, ◌-◌, min, length, take, dr
 use Rattle.cardline_player.specs.declared.Turned.{Turned}
 use Rattle.cardline_records.specs.Record.{said_of}
 use Rattle.cardline_records.specs.declared.Progress.{Progress}
-use Rattle.cardline_records.specs.declared.Said.{Said}
+use Rattle.playing.specs.declared.Said.{Said}
 use Rattle.playing.specs.Playing.{kept_of}
+use Rattle.playing.specs.declared.player.Turn.{Turn}
 use Rattle.playing.specs.declared.Then.{Then}
 use Rattle.playing.specs.declared.Then.TheVariants.{Goes, Stops, Waits, NoRoom}
 use Rattle.store.specs.Lent.{Lent}
@@ -16,10 +17,10 @@ at_hand from to buffer = drop from (take to buffer)
 
 -- what is left behind a record, by how the script goes on: a record is all that there is room for at a turn, nothing is read behind a stop,
 -- and the n bytes of a record that is not whole yet are moved to the front
-abbrev pub left_by : Said → ℕ → ℕ → Then → Turned
+abbrev pub left_by : Said Progress → ℕ → ℕ → Then → Turned
 left_by said from to then = record { progress = said.progress; from = from; to = to; wrote = said.wrote; then = then }
 
-abbrev pub turned_by : Then → Said → ℕ → ℕ → ℕ → Turned
+abbrev pub turned_by : Then → Said Progress → ℕ → ℕ → ℕ → Turned
 turned_by Goes said from to n = left_by said (min (from + said.used) to) to NoRoom
 turned_by Stops said from to n = left_by said to to Stops
 turned_by Waits said from to n = left_by said 0 n Waits
@@ -39,3 +40,7 @@ advanced_of w from to buffer lent room =
 
 unfoldable pub buffer_of : Progress → ℕ → ℕ → List ℕ → Lent → ℕ → List ℕ
 buffer_of w from to buffer lent room = buffer_by (said_of w (at_hand from to buffer) lent room).then from (min to (length buffer) - from) buffer
+
+-- what of it the next turn is told of
+abbrev pub turn_of : Turned → Turn
+turn_of turned = record { to = turned.to; wrote = turned.wrote; then = turned.then }

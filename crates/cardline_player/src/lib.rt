@@ -3,8 +3,10 @@
 // moved to the front of the buffer, behind which more is read. What is handed to the write call is
 // promised here; that it arrives is the operating system's.
 //
-// Offers: `Turned`, `advance`.
+// Offers: `Turned`, `advance`; `CardPlayer`.
 #![tactic(auto)]
+
+mod player;
 
 ghost use Rattle.std.specs.Prelude.{◌≡◌, ◌++◌, ◌+◌, ◌-◌, ◌<◌, min, length, drop};
 ghost use Rattle.cardline_player.specs.Turn.{at_hand, left_by, buffer_by, turned_by, advanced_of, buffer_of};
@@ -14,8 +16,11 @@ ghost use Rattle.store.specs.Lent.{lent_of};
 ghost use Rattle.playing.specs.declared.Then.TheVariants.{Waits};
 
 use cardline_records::{Progress, Said};
+pub use player::CardPlayer;
 use playing::{Then, keep};
 use text::parts::part;
+
+// `from` and `to` stand apart, and are no range: `turned_by` and the laws of a turn speak of each.
 
 // What a turn leaves: the bytes of the buffer that are at hand, from one place to another; those of
 // the line at the front of the output; how the script goes on.
@@ -32,21 +37,7 @@ pub struct Turned {
 fn at_hand(buffer: &[u8], from: usize, to: usize) -> &[u8]
     ensures { result.now ≡ at_hand from to buffer.now }
 {
-    let first = part(buffer, 0, to);
-    part(first, from, buffer.len())
-}
-
-// The place so many bytes behind another, up to a third.
-fn behind(from: usize, used: usize, to: usize) -> usize
-    ensures { result ≡ min (from + used) to }
-{
-    if to <= from {
-        return to;
-    }
-    if to - from <= used {
-        return to;
-    }
-    from + used
+    part(part(buffer, 0, to), from, buffer.len())
 }
 
 // What is at hand behind a record: what it left over, at the front of the buffer if it waits for
@@ -55,9 +46,11 @@ fn settle(said: Said, from: usize, to: usize, buffer: &mut [u8]) -> Turned
     ensures answer { result ≡ turned_by said.then said from to (min to (length buffer.old) - from) }
     ensures buffer { buffer.new ≡ buffer_by said.then from (min to (length buffer.old) - from) buffer.old }
 {
-    let then = said.then;
-    match then {
-        Then::Goes => leave(said, behind(from, said.used, to), to, Then::NoRoom),
+    match said.then {
+        Then::Goes => {
+            let next = from.saturating_add(said.used).min(to);
+            leave(said, next, to, Then::NoRoom)
+        }
         Then::Stops => leave(said, to, to, Then::Stops),
         Then::Waits => {
             let n = keep(buffer, from, to);
@@ -70,9 +63,8 @@ fn settle(said: Said, from: usize, to: usize, buffer: &mut [u8]) -> Turned
 fn leave(said: Said, from: usize, to: usize, then: Then) -> Turned
     ensures { result ≡ left_by said from to then }
 {
-    let progress = said.progress;
     Turned {
-        progress,
+        progress: said.progress,
         from,
         to,
         wrote: said.wrote,

@@ -8,7 +8,7 @@
 use mathlib.Core.Path.{◌≡◌, sym, ap, ap₂, ◌∙◌}
 use mathlib.Core.Bool.{true, false}
 use mathlib.Core.List.{List, ◌++◌}
-use Prim.Native.Nat.{ℕ, ◌-◌, ◌≤◌, ◌<◌, min}
+use Prim.Native.Nat.{ℕ, ◌≤◌, ◌<◌, min}
 use native.Mathlib.Omega.{arith}
 use borrow.Author.Tests.{leb-true, leb-false}
 use lib.Dec.{leb}
@@ -27,29 +27,29 @@ use Rattle.card_record.specs.declared.Card.{Card}
 use Rattle.cardline_script.specs.declared.Sizes.{Sizes}
 use Rattle.store.specs.Lent.{Lent, lent_of, seen}
 
-pub lent_front : (l : List ℕ) (n k : ℕ) → k ≡ min n (length l) → take (k - 0) l ≡ take n l
+pub lent_front : (l : List ℕ) (n k : ℕ) → k ≡ min n (length l) → take k l ≡ take n l
 lent_front l n k e =
     cases (leb n (length l))
     (λ (t : leb n (length l) ≡ true).
     let h : n ≤ length l = leb-true n (length l) t in
-    let j : k - 0 ≡ n = omega arith in
+    let j : k ≡ n = omega arith in
     ap (λ (m : ℕ). take m l) j)
     (λ (t : leb n (length l) ≡ false).
     let h : length l < n = leb-false n (length l) t in
-    take_all (k - 0) l (omega arith) ∙ sym (take_all n l (omega arith)))
+    take_all k l (omega arith) ∙ sym (take_all n l (omega arith)))
 
-pub lent_back : (l : List ℕ) (n k : ℕ) → k ≡ min n (length l) → drop (k - 0) l ≡ drop n l
+pub lent_back : (l : List ℕ) (n k : ℕ) → k ≡ min n (length l) → drop k l ≡ drop n l
 lent_back l n k e =
     cases (leb n (length l))
     (λ (t : leb n (length l) ≡ true).
     let h : n ≤ length l = leb-true n (length l) t in
-    let j : k - 0 ≡ n = omega arith in
+    let j : k ≡ n = omega arith in
     ap (λ (m : ℕ). drop m l) j)
     (λ (t : leb n (length l) ≡ false).
     let h : length l < n = leb-false n (length l) t in
-    drop_of_length-le l {i = k - 0} (omega arith) ∙ sym (drop_of_length-le l {i = n} (omega arith)))
+    drop_of_length-le l {i = k} (omega arith) ∙ sym (drop_of_length-le l {i = n} (omega arith)))
 
-pub filled_is : (l p : List ℕ) (n k v : ℕ) → k ≡ min n (length l) → p ≡ replicate (length (take (k - 0) l)) v → p ++ drop (k - 0) l ≡ memory_filled n v l
+pub filled_is : (l p : List ℕ) (n k v : ℕ) → k ≡ min n (length l) → p ≡ replicate (length (take k l)) v → p ++ drop k l ≡ memory_filled n v l
 unfolding memory_filled
 filled_is l p n k v ek e =
     ap₂ (λ (x y : List ℕ). x ++ y) (e ∙ ap (λ (m : List ℕ). replicate (length m) v) (lent_front l n k ek)) (lent_back l n k ek)
@@ -59,22 +59,22 @@ module _ (card : Card) (lent : Sizes) (call : Call) (input memory map output : L
   abbrev buffers : Lent
   buffers = lent_of memory map
 
-  front_is : lent_of (take (k - 0) memory) (take (j - 0) map) ≡ front_of lent buffers
+  front_is : lent_of (take k memory) (take j map) ≡ front_of lent buffers
   front_is = ap₂ (λ (x y : List ℕ). lent_of x y) (lent_front memory lent.memory k ek) (lent_front map lent.map j ej)
 
-  pub stepped_answer : (r : Stepped) → r ≡ step_of card call input (seen (lent_of (take (k - 0) memory) (take (j - 0) map))) (length output)
+  pub stepped_answer : (r : Stepped) → r ≡ step_of card call input (seen (lent_of (take k memory) (take j map))) (length output)
       → r ≡ step_lent card lent call input buffers (length output)
   unfolding step_lent
   stepped_answer r e = e ∙ ap (λ (l : Lent). step_of card call input (seen l) (length output)) front_is
 
-  pub stepped_lent : (m p : List ℕ) → lent_of m p ≡ lent_after card call input (lent_of (take (k - 0) memory) (take (j - 0) map))
-      → lent_of (m ++ drop (k - 0) memory) (p ++ drop (j - 0) map) ≡ buffers_lent card lent call input buffers
+  pub stepped_lent : (m p : List ℕ) → lent_of m p ≡ lent_after card call input (lent_of (take k memory) (take j map))
+      → lent_of (m ++ drop k memory) (p ++ drop j map) ≡ buffers_lent card lent call input buffers
   unfolding buffers_lent
   stepped_lent m p e =
       ap₂ (λ (x y : List ℕ). lent_of (m ++ x) (p ++ y)) (lent_back memory lent.memory k ek) (lent_back map lent.map j ej)
       ∙ ap (put_back lent buffers) (e ∙ ap (lent_after card call input) front_is)
 
-  pub stepped_output : (q : List ℕ) → q ≡ output_of card call (lent_of (take (k - 0) memory) (take (j - 0) map)) output
+  pub stepped_output : (q : List ℕ) → q ≡ output_of card call (lent_of (take k memory) (take j map)) output
       → q ≡ output_lent card lent call buffers output
   unfolding output_lent
   stepped_output q e = e ∙ ap (λ (l : Lent). output_of card call l output) front_is

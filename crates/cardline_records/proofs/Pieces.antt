@@ -14,6 +14,7 @@ use native.Mathlib.Omega.{arith}
 use lib.Dec.{leb}
 use lib.ListN.{length}
 use Rattle.base.proofs.Cases.{cases, clash}
+use Rattle.std.specs.Prelude.{Ok, Err, Result}
 use Rattle.cardline_looks.specs.Lines.{roomy}
 use Rattle.cardline_records.proofs.Reading.{same_text, same_buffers, same_said}
 use Rattle.cardline_records.specs.Makes.{card_made, make_said}
@@ -22,13 +23,11 @@ use Rattle.cardline_records.specs.Transcript.{Kept, record_step, fresh_kept, clo
 use Rattle.cardline_records.specs.Progress.{fresh_progress}
 use Rattle.cardline_records.specs.declared.Progress.{Progress}
 use Rattle.card_record.specs.declared.Card.{Card}
-use Rattle.card_record.specs.declared.Making.{Making as Outcome}
-use Rattle.card_record.specs.declared.Making.TheVariants.{Done, Refused}
 use Rattle.cardline_script.proofs.Whole.{Bytes, stays, inside, short}
-use Rattle.cardline_script.specs.Reading.{asked_of}
+use Rattle.cardline_script.specs.Reading.{Read, asked_of}
 use Rattle.cardline_script.specs.Whole.{waits, used_by, used_looked, used_wiring, used_going, used_asked, longest_record}
-use Rattle.cardline_script.specs.declared.Asked.{Asked}
-use Rattle.cardline_script.specs.declared.Asked.TheVariants as asked
+use Rattle.cardline_script.specs.declared.Asked.TheVariants.{Make, Go}
+use Rattle.cardline_script.specs.declared.Halt.TheVariants as halt
 use Rattle.cardline_script.specs.declared.Calling.{Calling}
 use Rattle.cardline_script.specs.declared.Calling.TheVariants as calling
 use Rattle.cardline_script.specs.declared.Going.{Going}
@@ -42,6 +41,7 @@ use Rattle.playing.proofs.Joined.{Steady, joined, stopped_whole, waited_whole}
 use Rattle.playing.specs.Playing.{Played, unplayed, played_of, next_piece, fed_all, all_of}
 use Rattle.playing.specs.declared.Then.TheVariants.{Goes, Stops, Waits, NoRoom}
 use Rattle.store.specs.Lent.{Lent}
+use Rattle.base.specs.declared.Refusal.{Refusal}
 
 -- each kind of record has a byte or more
 call_uses : (c : Calling) → 1 ≤ used_by c
@@ -70,54 +70,54 @@ going_takes (Wire wiring) = wire_uses wiring
 
 -- what is said of a record that goes on: it used what it asked for
 module _ (w : Progress) (m : Making) (card : Card) (n : ℕ) where
-  make_used : (outcome : Outcome) → (make_said w m card outcome n).then ≡ Goes → (make_said w m card outcome n).used ≡ m.map + 43 + m.password
-  make_used Done e = refl
-  make_used (Refused refusal) e = clash cc
+  make_used : (outcome : Result Unit Refusal) → (make_said w m card outcome n).then ≡ Goes → (make_said w m card outcome n).used ≡ m.map + 43 + m.password
+  make_used (Ok tt) e = refl
+  make_used (Err refusal) e = clash cc
 
-  make_settled : (outcome : Outcome) → (make_said w m card outcome n).then ≡ Waits → ⊥
-  make_settled Done e = clash cc
-  make_settled (Refused refusal) e = clash cc
+  make_settled : (outcome : Result Unit Refusal) → (make_said w m card outcome n).then ≡ Waits → ⊥
+  make_settled (Ok tt) e = clash cc
+  make_settled (Err refusal) e = clash cc
 
-  make_wrote : (outcome : Outcome) → (make_said w m card outcome n).wrote ≡ n
-  make_wrote Done = refl
-  make_wrote (Refused refusal) = refl
+  make_wrote : (outcome : Result Unit Refusal) → (make_said w m card outcome n).wrote ≡ n
+  make_wrote (Ok tt) = refl
+  make_wrote (Err refusal) = refl
 
 module _ (s : List ℕ) (buffers : Lent) (w : Progress) (n : ℕ) where
-  asked_used : (a : Asked) → (asked_said w a s buffers n).then ≡ Goes → (asked_said w a s buffers n).used ≡ used_asked a
+  asked_used : (a : Read) → (asked_said w a s buffers n).then ≡ Goes → (asked_said w a s buffers n).used ≡ used_asked a
   unfolding asked_said
-  asked_used asked.More e = clash cc
-  asked_used (asked.Stop stop) e = clash cc
-  asked_used (asked.Make making) e = make_used w making (card_made making s buffers).card n (card_made making s buffers).making e
-  asked_used (asked.Go going) e = refl
+  asked_used (Err halt.More) e = clash cc
+  asked_used (Err (halt.Stop stop)) e = clash cc
+  asked_used (Ok (Make making)) e = make_used w making (card_made making s buffers).card n (card_made making s buffers).making e
+  asked_used (Ok (Go going)) e = refl
 
-  asked_takes : (a : Asked) → (asked_said w a s buffers n).then ≡ Goes → 1 ≤ used_asked a
+  asked_takes : (a : Read) → (asked_said w a s buffers n).then ≡ Goes → 1 ≤ used_asked a
   unfolding asked_said
-  asked_takes asked.More e = clash cc
-  asked_takes (asked.Stop stop) e = clash cc
-  asked_takes (asked.Make making) e = omega arith
-  asked_takes (asked.Go going) e = going_takes going
+  asked_takes (Err halt.More) e = clash cc
+  asked_takes (Err (halt.Stop stop)) e = clash cc
+  asked_takes (Ok (Make making)) e = omega arith
+  asked_takes (Ok (Go going)) e = going_takes going
 
-  asked_whole : (a : Asked) → ((asked_said w a s buffers n).then ≡ Waits → ⊥) → waits a ≡ false
+  asked_whole : (a : Read) → ((asked_said w a s buffers n).then ≡ Waits → ⊥) → waits a ≡ false
   unfolding asked_said
-  asked_whole asked.More not = absurd (not refl)
-  asked_whole (asked.Stop stop) not = refl
-  asked_whole (asked.Make making) not = refl
-  asked_whole (asked.Go going) not = refl
+  asked_whole (Err halt.More) not = absurd (not refl)
+  asked_whole (Err (halt.Stop stop)) not = refl
+  asked_whole (Ok (Make making)) not = refl
+  asked_whole (Ok (Go going)) not = refl
 
-  asked_waits : (a : Asked) → (asked_said w a s buffers n).then ≡ Waits → waits a ≡ true
+  asked_waits : (a : Read) → (asked_said w a s buffers n).then ≡ Waits → waits a ≡ true
   unfolding asked_said
-  asked_waits asked.More e = refl
-  asked_waits (asked.Stop stop) e = clash cc
-  asked_waits (asked.Make making) e = absurd (make_settled w making (card_made making s buffers).card n (card_made making s buffers).making e)
-  asked_waits (asked.Go going) e = clash cc
+  asked_waits (Err halt.More) e = refl
+  asked_waits (Err (halt.Stop stop)) e = clash cc
+  asked_waits (Ok (Make making)) e = absurd (make_settled w making (card_made making s buffers).card n (card_made making s buffers).making e)
+  asked_waits (Ok (Go going)) e = clash cc
 
-asked_wrote : (w : Progress) (s : List ℕ) (buffers : Lent) (a : Asked)
+asked_wrote : (w : Progress) (s : List ℕ) (buffers : Lent) (a : Read)
     → (asked_said w a s buffers (length (asked_text w a s buffers))).wrote ≡ length (asked_text w a s buffers)
 unfolding asked_said asked_text
-asked_wrote w s buffers asked.More = refl
-asked_wrote w s buffers (asked.Stop stop) = refl
-asked_wrote w s buffers (asked.Make making) = make_wrote w making (card_made making s buffers).card _ (card_made making s buffers).making
-asked_wrote w s buffers (asked.Go going) = refl
+asked_wrote w s buffers (Err halt.More) = refl
+asked_wrote w s buffers (Err (halt.Stop stop)) = refl
+asked_wrote w s buffers (Ok (Make making)) = make_wrote w making (card_made making s buffers).card _ (card_made making s buffers).making
+asked_wrote w s buffers (Ok (Go going)) = refl
 
 pub wrote : (w : Progress) (s : List ℕ) (buffers : Lent) (room : ℕ) → (said_of w s buffers room).wrote ≡ length (text_of w s buffers room)
 unfolding said_of text_of
@@ -127,7 +127,7 @@ wrote w s buffers room =
     (λ (t : leb roomy room ≡ false). rw t)
 
 -- the record at hand, and the length of its line
-abbrev held_by : Kept → List ℕ → Asked
+abbrev held_by : Kept → List ℕ → Read
 held_by k s = asked_of k.progress.made s
 
 abbrev long_by : Kept → List ℕ → ℕ

@@ -15,9 +15,11 @@ use Rattle.cardline_records.specs.Record.{going_text, going_buffers, going_progr
 use Rattle.cardline_records.specs.Progress.{record_counted}
 use Rattle.cardline_records.specs.declared.Progress.{Progress}
 use Rattle.cardline_script.proofs.Whole.{four_stays}
+use Rattle.cardline_script.specs.Reading.{Read}
+use Rattle.std.specs.Prelude.{Ok, Err}
 use Rattle.cardline_script.specs.Whole.{used_by, used_wiring, used_going, used_asked}
-use Rattle.cardline_script.specs.declared.Asked.{Asked}
-use Rattle.cardline_script.specs.declared.Asked.TheVariants as asked
+use Rattle.cardline_script.specs.declared.Asked.TheVariants.{Make, Go}
+use Rattle.cardline_script.specs.declared.Halt.TheVariants as halt
 use Rattle.cardline_script.specs.declared.Calling.{Calling}
 use Rattle.cardline_script.specs.declared.Calling.TheVariants as calling
 use Rattle.cardline_script.specs.declared.Going.{Going}
@@ -87,23 +89,23 @@ module _ (s t : List ℕ) where
     going_progress_lem w (Look looking) h = refl
     going_progress_lem w (Wire wiring) h = refl
 
-    pub same_text : (w : Progress) (a : Asked) → used_asked a ≤ length s → asked_text w a (s ++ t) buffers ≡ asked_text w a s buffers
+    pub same_text : (w : Progress) (a : Read) → used_asked a ≤ length s → asked_text w a (s ++ t) buffers ≡ asked_text w a s buffers
     unfolding asked_text
-    same_text w asked.More h = refl
-    same_text w (asked.Stop stop) h = refl
-    same_text w (asked.Make making) h = rw (card_stays making h buffers)
-    same_text w (asked.Go going) h = going_text_lem (record_counted w) going h
+    same_text w (Err halt.More) h = refl
+    same_text w (Err (halt.Stop stop)) h = refl
+    same_text w (Ok (Make making)) h = rw (card_stays making h buffers)
+    same_text w (Ok (Go going)) h = going_text_lem (record_counted w) going h
 
-    pub same_buffers : (w : Progress) (a : Asked) → used_asked a ≤ length s → asked_buffers w a (s ++ t) buffers ≡ asked_buffers w a s buffers
+    pub same_buffers : (w : Progress) (a : Read) → used_asked a ≤ length s → asked_buffers w a (s ++ t) buffers ≡ asked_buffers w a s buffers
     unfolding asked_buffers
-    same_buffers w asked.More h = refl
-    same_buffers w (asked.Stop stop) h = refl
-    same_buffers w (asked.Make making) h = buffers_stay making h buffers
-    same_buffers w (asked.Go going) h = going_buffers_lem (record_counted w) going h
+    same_buffers w (Err halt.More) h = refl
+    same_buffers w (Err (halt.Stop stop)) h = refl
+    same_buffers w (Ok (Make making)) h = buffers_stay making h buffers
+    same_buffers w (Ok (Go going)) h = going_buffers_lem (record_counted w) going h
 
-    pub same_said : (w : Progress) (a : Asked) (wrote : ℕ) → used_asked a ≤ length s → asked_said w a (s ++ t) buffers wrote ≡ asked_said w a s buffers wrote
+    pub same_said : (w : Progress) (a : Read) (wrote : ℕ) → used_asked a ≤ length s → asked_said w a (s ++ t) buffers wrote ≡ asked_said w a s buffers wrote
     unfolding asked_said
-    same_said w asked.More wrote h = refl
-    same_said w (asked.Stop stop) wrote h = refl
-    same_said w (asked.Make making) wrote h = rw (card_stays making h buffers)
-    same_said w (asked.Go going) wrote h = rw (going_progress_lem (record_counted w) going h)
+    same_said w (Err halt.More) wrote h = refl
+    same_said w (Err (halt.Stop stop)) wrote h = refl
+    same_said w (Ok (Make making)) wrote h = rw (card_stays making h buffers)
+    same_said w (Ok (Go going)) wrote h = rw (going_progress_lem (record_counted w) going h)

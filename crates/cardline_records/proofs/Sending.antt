@@ -16,26 +16,25 @@ use Rattle.base.proofs.Cases.{cases, passed}
 use Rattle.base.specs.Output.{fits, laid, bytes_of}
 use Rattle.base.specs.Refusals.{by}
 use Rattle.base.specs.declared.Refusal.{Refusal}
-use Rattle.base.specs.declared.Written.{Written}
-use Rattle.base.specs.declared.Written.TheVariants.{Bytes, Refused}
 use Rattle.cardline_records.specs.Calls.{shown_text, sent_line, beside_of, beside_bytes}
 use Rattle.card_record.specs.Sending.{sent_bytes, sent_written}
 use Rattle.card_record.specs.declared.Sent.{Sent}
 use Rattle.card_record.specs.declared.Sent.TheVariants.{Nothing, Status, Cid, Csd, Ocr, SpiR1, SpiR2, SpiR3, DataResponse}
 use Rattle.card_record.specs.declared.Registers.{Registers}
 use Rattle.wire.specs.Frames.{indexed}
+use Rattle.std.specs.Prelude.{Result, Ok, Err}
 
-never : (refusal : Refusal) (n : ℕ) → Refused refusal ≡ Bytes n → ⊥
+never : (refusal : Refusal) (n : ℕ) → Err refusal ≡ Ok n → ⊥
 never refusal n e = let z : ◌≡◌ {A = ℕ} 0 1 = cc in omega arith
 
-fitted : (bytes out : List ℕ) (n : ℕ) → fits bytes out ≡ Bytes n → length bytes ≡ n
+fitted : (bytes out : List ℕ) (n : ℕ) → fits bytes out ≡ Ok n → length bytes ≡ n
 fitted bytes out n e =
-    ap bytes_of (passed (leb (length bytes) (length out)) (Refused (by 6)) (Bytes (length bytes)) (Bytes n) (never (by 6) n) e).1
+    ap bytes_of (passed (leb (length bytes) (length out)) (Err (by 6)) (Ok (length bytes)) (Ok n) (never (by 6) n) e).1
 
-index_fitted : (index n : ℕ) (bytes out : List ℕ) → indexed index bytes out ≡ Bytes n → length bytes ≡ n
-index_fitted index n bytes out e = fitted bytes out n (passed (leb index 63) (Refused (by 4)) (fits bytes out) (Bytes n) (never (by 4) n) e).1
+index_fitted : (index n : ℕ) (bytes out : List ℕ) → indexed index bytes out ≡ Ok n → length bytes ≡ n
+index_fitted index n bytes out e = fitted bytes out n (passed (leb index 63) (Err (by 4)) (fits bytes out) (Ok n) (never (by 4) n) e).1
 
-sent_length : (registers : Registers) (sent : Sent) (out : List ℕ) (n : ℕ) → sent_written registers sent out ≡ Bytes n → length (sent_bytes registers sent) ≡ n
+sent_length : (registers : Registers) (sent : Sent) (out : List ℕ) (n : ℕ) → sent_written registers sent out ≡ Ok n → length (sent_bytes registers sent) ≡ n
 unfolding sent_written sent_bytes
 sent_length registers Nothing out n e = fitted [] out n e
 sent_length registers (Status index status) out n e = index_fitted index n (sent_bytes registers (Status index status)) out e
@@ -47,25 +46,25 @@ sent_length registers (SpiR2 first second) out n e = fitted (sent_bytes register
 sent_length registers (SpiR3 first) out n e = fitted (sent_bytes registers (SpiR3 first)) out n e
 sent_length registers (DataResponse response) out n e = fitted (sent_bytes registers (DataResponse response)) out n e
 
-sent_front : (registers : Registers) (sent : Sent) (out after : List ℕ) (n : ℕ) (w : Written) → w ≡ sent_written registers sent out → w ≡ Bytes n
+sent_front : (registers : Registers) (sent : Sent) (out after : List ℕ) (n : ℕ) (w : Result ℕ Refusal) → w ≡ sent_written registers sent out → w ≡ Ok n
     → after ≡ laid w (sent_bytes registers sent) out → take n after ≡ sent_bytes registers sent
 sent_front registers sent out after n w ew en ea =
     let t : List ℕ = sent_bytes registers sent in
-    ap (take n) (ea ∙ ap (λ (x : Written). laid x t out) en)
+    ap (take n) (ea ∙ ap (λ (x : Result ℕ Refusal). laid x t out) en)
     ∙ take_at t (drop (length t) out) n (sent_length registers sent out n (sym ew ∙ en))
 
-module _ (count : ℕ) (registers : Registers) (sent : Sent) (out after : List ℕ) (w : Written) (ew : w ≡ sent_written registers sent out) where
-  pub sent_text_lem : (n : ℕ) → w ≡ Bytes n → after ≡ laid w (sent_bytes registers sent) out
+module _ (count : ℕ) (registers : Registers) (sent : Sent) (out after : List ℕ) (w : Result ℕ Refusal) (ew : w ≡ sent_written registers sent out) where
+  pub sent_text_lem : (n : ℕ) → w ≡ Ok n → after ≡ laid w (sent_bytes registers sent) out
       → shown_text count (take n after) ≡ sent_line count (sent_written registers sent out) (sent_bytes registers sent)
   sent_text_lem n en ea =
       ap (shown_text count) (sent_front registers sent out after n w ew en ea)
-      ∙ ap (λ (x : Written). sent_line count x (sent_bytes registers sent)) (sym en ∙ ew)
+      ∙ ap (λ (x : Result ℕ Refusal). sent_line count x (sent_bytes registers sent)) (sym en ∙ ew)
 
-module _ (registers : Registers) (sent : Sent) (out after : List ℕ) (w : Written) (ew : w ≡ sent_written registers sent out) where
-  pub sent_beside_lem : (n : ℕ) → w ≡ Bytes n → after ≡ laid w (sent_bytes registers sent) out
+module _ (registers : Registers) (sent : Sent) (out after : List ℕ) (w : Result ℕ Refusal) (ew : w ≡ sent_written registers sent out) where
+  pub sent_beside_lem : (n : ℕ) → w ≡ Ok n → after ≡ laid w (sent_bytes registers sent) out
       → take n after ≡ beside_of (sent_written registers sent out) (sent_bytes registers sent)
   sent_beside_lem n en ea =
-      sent_front registers sent out after n w ew en ea ∙ ap (λ (x : Written). beside_of x (sent_bytes registers sent)) (sym en ∙ ew)
+      sent_front registers sent out after n w ew en ea ∙ ap (λ (x : Result ℕ Refusal). beside_of x (sent_bytes registers sent)) (sym en ∙ ew)
 
 fits_most : (bytes out : List ℕ) → length (beside_of (fits bytes out) bytes) ≤ length out
 fits_most bytes out =

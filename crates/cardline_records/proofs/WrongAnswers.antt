@@ -31,7 +31,6 @@ use Rattle.base.specs.Refusals.{by}
 use Rattle.card.specs.declared.Call.{Call}
 use Rattle.card.specs.declared.Call.TheVariants as call
 use Rattle.card_blocks.specs.BlockOut.{out_judged, sent_out}
-use Rattle.card_blocks.specs.declared.Outcome.TheVariants.{Done, Refused}
 use Rattle.text.specs.Lines.{number_text, hex_text, end_text, head_text, named_line, plain_line}
 use Rattle.text.specs.Text.{hex_of, digits_of, decimal_of}
 use Rattle.text.specs.Words.{ascii}
@@ -54,6 +53,7 @@ use Rattle.cardline_records.specs.Transcript.{record_step, cut_text, transcript}
 use Rattle.playing.specs.Playing.{played_in, played_of}
 use Rattle.playing.specs.declared.Then.TheVariants.{Goes, Stops}
 use Rattle.cardline_records.specs.declared.Progress.{Progress}
+use Rattle.std.specs.Prelude.{Ok, Err, None}
 
 -- a made card's progress, with a map of one byte and nothing carried out
 abbrev made : Progress
@@ -114,19 +114,19 @@ line_high e = never (sym e)
 abbrev registers : Registers
 registers = refused_make.registers
 
-number_alone : frame_text 1 registers (Refused (by 3)) (SpiR1 0x08) ≡ ascii "1 refused 3\n" → ⊥
+number_alone : frame_text 1 registers (Err (by 3)) (SpiR1 0x08) ≡ ascii "1 refused 3\n" → ⊥
 unfolding refused_text beside_bytes beside_text sent_written sent_bytes head_text number_text end_text hex_text hex_of decimal_of digits_of
 number_alone e = let d = ap (λ (l : List ℕ). get_or l 11 0) e in omega arith
 
-response_dropped : taken_text 1 registers Done (DataResponse 0x05) ≡ ascii "1 taken\n" → ⊥
+response_dropped : taken_text 1 registers (Ok None) (DataResponse 0x05) ≡ ascii "1 taken\n" → ⊥
 unfolding good_text beside_bytes beside_text sent_written sent_bytes head_text end_text hex_text hex_of decimal_of digits_of
 response_dropped e = let d = ap (λ (l : List ℕ). get_or l 7 0) e in omega arith
 
-response_as_line : taken_text 1 registers (Refused (by 17)) (DataResponse 0x0B) ≡ ascii "1 refused 17 line 0B\n" → ⊥
+response_as_line : taken_text 1 registers (Err (by 17)) (DataResponse 0x0B) ≡ ascii "1 refused 17 line 0B\n" → ⊥
 unfolding refused_text beside_bytes beside_text sent_written sent_bytes head_text number_text end_text hex_text hex_of decimal_of digits_of
 response_as_line e = let d = ap (λ (l : List ℕ). get_or l 13 0) e in omega arith
 
-empty_response : taken_text 1 registers Done Nothing ≡ ascii "1 taken response\n" → ⊥
+empty_response : taken_text 1 registers (Ok None) Nothing ≡ ascii "1 taken response\n" → ⊥
 unfolding good_text beside_bytes beside_text sent_written sent_bytes head_text end_text hex_text hex_of decimal_of digits_of
 empty_response e = let d = ap (λ (l : List ℕ). get_or l 7 0) e in omega arith
 

@@ -1,11 +1,9 @@
 -- The calls of the card, kinds 02 to 06 and 0E.
 -- Assumes nothing.
-use Rattle.std.specs.Prelude.{true, List, [], ◌++◌, ℕ, eqb, length, take, drop, replicate}
+use Rattle.std.specs.Prelude.{true, List, [], ◌++◌, ℕ, eqb, length, take, drop, replicate, Result, Option, Ok, Err, Some, None}
 use Rattle.base.specs.Choice.{pick}
 use Rattle.base.specs.Refusals.{number_of}
 use Rattle.base.specs.declared.Refusal.{Refusal}
-use Rattle.base.specs.declared.Written.{Written}
-use Rattle.base.specs.declared.Written.TheVariants.{Bytes, Refused as NotWritten}
 use Rattle.cardline_looks.specs.Lines.{number_line, refused_line, blank}
 use Rattle.cardline_looks.specs.Looks.{front_of}
 use Rattle.text.specs.Lines.{space, line_feed, number_text, end_text, head_text, word_line}
@@ -19,8 +17,6 @@ use Rattle.card_record.specs.Sending.{sent_bytes, sent_written}
 use Rattle.card.specs.Step.{step_of, lent_after, output_of}
 use Rattle.card.specs.declared.Call.{Call}
 use Rattle.card.specs.declared.Call.TheVariants as call
-use Rattle.card_blocks.specs.declared.Outcome.{Outcome}
-use Rattle.card_blocks.specs.declared.Outcome.TheVariants.{Done, Wrote, Refused}
 use Rattle.card_blocks.specs.declared.Reply.{Reply}
 use Rattle.card_blocks.specs.declared.Stepped.{Stepped}
 use Rattle.card_record.specs.declared.Sent.{Sent}
@@ -45,18 +41,18 @@ unfoldable pub shown_text : ℕ → List ℕ → List ℕ
 shown_text count bytes = pick (eqb (length bytes) 0) (word_line count silent_word []) (word_line count line_word bytes)
 
 -- as the writers of the wire answer
-abbrev pub sent_line : ℕ → Written → List ℕ → List ℕ
-sent_line count (Bytes n) bytes = shown_text count bytes
-sent_line count (NotWritten refusal) bytes = refused_line count refusal []
+abbrev pub sent_line : ℕ → Result ℕ Refusal → List ℕ → List ℕ
+sent_line count (Ok n) bytes = shown_text count bytes
+sent_line count (Err refusal) bytes = refused_line count refusal []
 
 -- into the 17 bytes of R2, the longest response
 unfoldable pub sent_text : ℕ → Registers → Sent → List ℕ
 sent_text count registers sent = sent_line count (sent_written registers sent (replicate 17 0)) (sent_bytes registers sent)
 
 -- the bytes that go out beside a call's word or number: none where a card sends nothing, or what can't be written
-abbrev pub beside_of : Written → List ℕ → List ℕ
-beside_of (Bytes n) bytes = bytes
-beside_of (NotWritten refusal) bytes = []
+abbrev pub beside_of : Result ℕ Refusal → List ℕ → List ℕ
+beside_of (Ok n) bytes = bytes
+beside_of (Err refusal) bytes = []
 
 unfoldable pub beside_bytes : Registers → Sent → List ℕ
 beside_bytes registers sent = beside_of (sent_written registers sent (replicate 17 0)) (sent_bytes registers sent)
@@ -69,25 +65,25 @@ beside_text word bytes = pick (eqb (length bytes) 0) line_feed (space ++ word ++
 unfoldable pub refused_text : ℕ → Refusal → List ℕ → List ℕ → List ℕ
 refused_text count refusal word bytes = head_text count refused_word ++ number_text (number_of refusal) ++ beside_text word bytes
 
-abbrev pub frame_text : ℕ → Registers → Outcome → Sent → List ℕ
-frame_text count registers Done sent = sent_text count registers sent
-frame_text count registers (Wrote n) sent = sent_text count registers sent
-frame_text count registers (Refused refusal) sent = refused_text count refusal line_word (beside_bytes registers sent)
+abbrev pub frame_text : ℕ → Registers → Result (Option ℕ) Refusal → Sent → List ℕ
+frame_text count registers (Ok None) sent = sent_text count registers sent
+frame_text count registers (Ok (Some n)) sent = sent_text count registers sent
+frame_text count registers (Err refusal) sent = refused_text count refusal line_word (beside_bytes registers sent)
 
 -- | 03 | `N taken` or `N refused R` |; "A data response follows on the line: `N taken response 05`, `N refused 17 response 0B`"
 unfoldable pub good_text : ℕ → List ℕ → List ℕ
 good_text count bytes = head_text count taken_word ++ beside_text response_word bytes
 
-abbrev pub taken_text : ℕ → Registers → Outcome → Sent → List ℕ
-taken_text count registers Done sent = good_text count (beside_bytes registers sent)
-taken_text count registers (Wrote n) sent = good_text count (beside_bytes registers sent)
-taken_text count registers (Refused refusal) sent = refused_text count refusal response_word (beside_bytes registers sent)
+abbrev pub taken_text : ℕ → Registers → Result (Option ℕ) Refusal → Sent → List ℕ
+taken_text count registers (Ok None) sent = good_text count (beside_bytes registers sent)
+taken_text count registers (Ok (Some n)) sent = good_text count (beside_bytes registers sent)
+taken_text count registers (Err refusal) sent = refused_text count refusal response_word (beside_bytes registers sent)
 
 -- | 04 | `N block K HEX`: K bytes are the answer, HEX is the whole lent output; or `N refused R HEX`, the same |
-abbrev pub block_text : ℕ → Outcome → List ℕ → List ℕ
-block_text count Done output = number_line count block_word 0 output
-block_text count (Wrote n) output = number_line count block_word n output
-block_text count (Refused refusal) output = refused_line count refusal output
+abbrev pub block_text : ℕ → Result (Option ℕ) Refusal → List ℕ → List ℕ
+block_text count (Ok None) output = number_line count block_word 0 output
+block_text count (Ok (Some n)) output = number_line count block_word n output
+block_text count (Err refusal) output = refused_line count refusal output
 
 -- the line of a call with what it answered and the output that it was lent
 -- | 05 | `N done` |

@@ -1,6 +1,6 @@
 -- | 01 | make a card, lent a memory of M bytes that are all F, and a map of the m bytes | `made` or `refused R` |
 -- Assumes nothing.
-use Rattle.std.specs.Prelude.{true, List, ◌++◌, ℕ, ◌+◌, length, take, drop, replicate}
+use Rattle.std.specs.Prelude.{true, List, ◌++◌, ℕ, ◌+◌, length, take, drop, replicate, Result, Ok, Err}
 use Rattle.base.specs.Output.{copied}
 use Rattle.cardline_looks.specs.Looks.{front_of}
 use Rattle.store.specs.Lent.{Lent, Seen, lent_of, seen}
@@ -9,14 +9,13 @@ use Rattle.cardline_script.specs.Reading.{four}
 use Rattle.cardline_records.specs.Words.{made_word}
 use Rattle.cardline_records.specs.Progress.{gone_on, ended}
 use Rattle.cardline_script.specs.declared.Making.{Making}
-use Rattle.cardline_records.specs.declared.Said.{Said}
+use Rattle.playing.specs.declared.Said.{Said}
 use Rattle.cardline_script.specs.declared.Sizes.{Sizes}
 use Rattle.cardline_records.specs.declared.Progress.{Progress}
 use Rattle.card_record.specs.Making.{made_of}
 use Rattle.card_record.specs.declared.Card.{Card}
 use Rattle.card_record.specs.declared.Made.{Made}
-use Rattle.card_record.specs.declared.Making.{Making as Outcome}
-use Rattle.card_record.specs.declared.Making.TheVariants.{Done, Refused}
+use Rattle.base.specs.declared.Refusal.{Refusal}
 
 -- the memory's first M bytes, as far as it has them, are F, and what stands behind them stays
 unfoldable pub memory_filled : ℕ → ℕ → List ℕ → List ℕ
@@ -53,11 +52,11 @@ unfoldable pub made_progress : Making → Card → Progress
 made_progress m c = record { card = c; made = true; own = sizes_made m; lent = sizes_made m; count = 0 }
 
 -- the line: `made` or `refused R`
-abbrev pub make_text : Outcome → List ℕ
-make_text Done = plain_line made_word
-make_text (Refused refusal) = refusal_line refusal
+abbrev pub make_text : Result Unit Refusal → List ℕ
+make_text (Ok tt) = plain_line made_word
+make_text (Err refusal) = refusal_line refusal
 
 -- "A refused make prints `refused R` and stops". `wrote` is the length of its line
-abbrev pub make_said : Progress → Making → Card → Outcome → ℕ → Said
-make_said w m card Done wrote = gone_on (made_progress m card) (m.map + 43 + m.password) wrote
-make_said w m card (Refused refusal) wrote = ended w wrote
+abbrev pub make_said : Progress → Making → Card → Result Unit Refusal → ℕ → Said Progress
+make_said w m card (Ok tt) wrote = gone_on (made_progress m card) (m.map + 43 + m.password) wrote
+make_said w m card (Err refusal) wrote = ended w wrote

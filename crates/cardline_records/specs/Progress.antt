@@ -4,7 +4,7 @@ use Rattle.std.specs.Prelude.{false, ◌++◌, ℕ, ◌+◌, ltb, drop}
 use Rattle.base.specs.Choice.{pick}
 use Rattle.card_record.specs.Making.{refused_make}
 use Rattle.card_record.specs.declared.Card.{Card}
-use Rattle.cardline_records.specs.declared.Said.{Said}
+use Rattle.playing.specs.declared.Said.{Said}
 use Rattle.cardline_script.specs.declared.Sizes.{Sizes}
 use Rattle.cardline_records.specs.declared.Progress.{Progress}
 use Rattle.playing.specs.declared.Then.{Then}
@@ -31,14 +31,14 @@ abbrev pub with_lent : Progress → Sizes → Progress
 with_lent w sizes = record { card = w.card; made = w.made; own = w.own; lent = sizes; count = w.count }
 
 -- a record that is carried out, and one at which the script stops
-abbrev pub gone_on : Progress → ℕ → ℕ → Said
+abbrev pub gone_on : Progress → ℕ → ℕ → Said Progress
 gone_on w used wrote = record { progress = w; used = used; wrote = wrote; then = Goes }
 
-abbrev pub ended : Progress → ℕ → Said
+abbrev pub ended : Progress → ℕ → Said Progress
 ended w wrote = record { progress = w; used = 0; wrote = wrote; then = Stops }
 
 -- nothing was done: the script goes on with more bytes, or with a longer output
-abbrev pub untouched : Progress → Then → Said
+abbrev pub untouched : Progress → Then → Said Progress
 untouched w then = record { progress = w; used = 0; wrote = 0; then = then }
 
 -- what became of the first bytes of two buffers, put back before what stands behind them

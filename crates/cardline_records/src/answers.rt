@@ -4,20 +4,23 @@
 ghost use Rattle.std.specs.Prelude.{◌+◌, max, length};
 ghost use Rattle.cardline_looks.specs.Lines.{line_room};
 ghost use Rattle.cardline_records.specs.Calls.{shown_text, sent_text, beside_bytes, beside_text, refused_text, frame_text, good_text, taken_text, block_text, reply_text};
+ghost use Rattle.text.specs.Pages.{Writes};
 ghost use Rattle.text.specs.Writing.{Put, Line};
 
-use base::{Refusal, Written};
+use base::Refusal;
 use card::Call;
-use card_blocks::{Outcome, Reply};
+use card_blocks::Reply;
 use card_record::{Registers, Sent};
 use cardline_looks::lines::{refused, say_number};
-use text::lines::{ending, head, number, put, say};
+use text::lines::say;
+use text::page::Page;
 use text::parts::part;
 
+#[tactic(auto, unfolding(crate::specs::Calls::shown_text))]
 fn shown(count: u64, bytes: &[u8], out: &mut [u8]) -> usize
     ensures { Put out.old out.new 0 result (shown_text count bytes.now) }
 {
-    if bytes.len() == 0 {
+    if bytes.is_empty() {
         return say(count, b"silent", b"", out);
     }
     say(count, b"line", bytes, out)
@@ -30,32 +33,32 @@ fn sent_line(count: u64, registers: Registers, sent: Sent, out: &mut [u8]) -> us
     let mut bytes = [0u8; 17];
     let written = card_record::write_sent(registers, sent, &mut bytes);
     match written {
-        Written::Bytes(n) => shown(count, part(&bytes, 0, n), out),
-        Written::Refused(refusal) => refused(count, refusal, b"", out),
+        Ok(n) => shown(count, part(&bytes, 0, n), out),
+        Err(refusal) => refused(count, refusal, b"", out),
     }
 }
 
 // The end of a line that tells of bytes, if there are any, behind a word.
-fn beside(word: &[u8], bytes: &[u8], out: &mut [u8], at: usize) -> usize
-    ensures { Put out.old out.new at result (beside_text word.now bytes.now) }
+fn beside(word: &[u8], bytes: &[u8], page: &mut Page)
+    ensures { Writes page.old page.new (beside_text word.now bytes.now) }
 {
-    if bytes.len() == 0 {
-        return put(b"\n", out, at);
+    if bytes.is_empty() {
+        return page.put(b"\n");
     }
-    let a = put(b" ", out, at);
-    let b = put(word, out, a);
-    ending(bytes, out, b)
+    page.put(b" ");
+    page.put(word);
+    page.ending(bytes);
 }
 
 // The end of a line that tells of what a card sends beside its answer.
-fn sent_beside(word: &[u8], registers: Registers, sent: Sent, out: &mut [u8], at: usize) -> usize
-    ensures { Put out.old out.new at result (beside_text word.now (beside_bytes registers sent)) }
+fn sent_beside(word: &[u8], registers: Registers, sent: Sent, page: &mut Page)
+    ensures { Writes page.old page.new (beside_text word.now (beside_bytes registers sent)) }
 {
     let mut bytes = [0u8; 17];
     let written = card_record::write_sent(registers, sent, &mut bytes);
     match written {
-        Written::Bytes(n) => beside(word, part(&bytes, 0, n), out, at),
-        Written::Refused(_) => beside(word, b"", out, at),
+        Ok(n) => beside(word, part(&bytes, 0, n), page),
+        Err(_) => beside(word, b"", page),
     }
 }
 
@@ -70,20 +73,23 @@ fn refused_line(
 ) -> usize
     ensures { Line (line_room (8 + length word.now) 17) out.old out.new result (refused_text count refusal word.now (beside_bytes registers sent)) }
 {
-    let a = head(count, b"refused", out);
-    let b = number(base::number(refusal) as u64, out, a);
-    sent_beside(word, registers, sent, out, b)
+    let mut page = Page { out, at: 0 };
+    page.head(count, b"refused");
+    page.number(base::number(refusal) as u64);
+    sent_beside(word, registers, sent, &mut page);
+    page.at
 }
 
+// What a good call prints differs from `taken_line`, and the word: a closure for it reads no plainer.
 fn frame_line(count: u64, registers: Registers, reply: Reply, out: &mut [u8]) -> usize
     ensures { Line (line_room 20 17) out.old out.new result (frame_text count registers reply.outcome reply.sent) }
 {
     let outcome = reply.outcome;
     let sent = reply.sent;
     match outcome {
-        Outcome::Done => sent_line(count, registers, sent, out),
-        Outcome::Wrote(_) => sent_line(count, registers, sent, out),
-        Outcome::Refused(refusal) => refused_line(count, refusal, b"line", registers, sent, out),
+        Ok(None) => sent_line(count, registers, sent, out),
+        Ok(Some(_)) => sent_line(count, registers, sent, out),
+        Err(refusal) => refused_line(count, refusal, b"line", registers, sent, out),
     }
 }
 
@@ -91,8 +97,10 @@ fn frame_line(count: u64, registers: Registers, reply: Reply, out: &mut [u8]) ->
 fn good_line(count: u64, registers: Registers, sent: Sent, out: &mut [u8]) -> usize
     ensures { Line (line_room 20 17) out.old out.new result (good_text count (beside_bytes registers sent)) }
 {
-    let a = head(count, b"taken", out);
-    sent_beside(b"response", registers, sent, out, a)
+    let mut page = Page { out, at: 0 };
+    page.head(count, b"taken");
+    sent_beside(b"response", registers, sent, &mut page);
+    page.at
 }
 
 fn taken_line(count: u64, registers: Registers, reply: Reply, out: &mut [u8]) -> usize
@@ -101,21 +109,24 @@ fn taken_line(count: u64, registers: Registers, reply: Reply, out: &mut [u8]) ->
     let outcome = reply.outcome;
     let sent = reply.sent;
     match outcome {
-        Outcome::Done => good_line(count, registers, sent, out),
-        Outcome::Wrote(_) => good_line(count, registers, sent, out),
-        Outcome::Refused(refusal) => {
-            refused_line(count, refusal, b"response", registers, sent, out)
-        }
+        Ok(None) => good_line(count, registers, sent, out),
+        Ok(Some(_)) => good_line(count, registers, sent, out),
+        Err(refusal) => { refused_line(count, refusal, b"response", registers, sent, out) }
     }
 }
 
-fn block_line(count: u64, outcome: Outcome, output: &[u8], out: &mut [u8]) -> usize
+fn block_line(
+    count: u64,
+    outcome: Result<Option<usize>, Refusal>,
+    output: &[u8],
+    out: &mut [u8],
+) -> usize
     ensures { Line (line_room 7 (length output.now)) out.old out.new result (block_text count outcome output.now) }
 {
     match outcome {
-        Outcome::Done => say_number(count, b"block", 0, output, out),
-        Outcome::Wrote(n) => say_number(count, b"block", n as u64, output, out),
-        Outcome::Refused(refusal) => refused(count, refusal, output, out),
+        Ok(None) => say_number(count, b"block", 0, output, out),
+        Ok(Some(n)) => say_number(count, b"block", n as u64, output, out),
+        Err(refusal) => refused(count, refusal, output, out),
     }
 }
 
@@ -132,10 +143,7 @@ pub fn reply_line(
 {
     let outcome = reply.outcome;
     match call {
-        Call::Frame {
-            wins: _,
-            selected: _,
-        } => frame_line(count, registers, reply, out),
+        Call::Frame { .. } => frame_line(count, registers, reply, out),
         Call::BlockIn => taken_line(count, registers, reply, out),
         Call::BlockOut => block_line(count, outcome, output, out),
         Call::WorkDone => say(count, b"done", b"", out),

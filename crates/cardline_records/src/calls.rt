@@ -4,35 +4,53 @@
 ghost use Rattle.std.specs.Prelude.{◌≡◌, ◌<◌, max, length};
 ghost use Rattle.cardline_looks.specs.Lines.{line_room, roomy};
 ghost use Rattle.cardline_records.specs.Calls.{step_lent, buffers_lent, output_lent, call_text, called_by, input_of, room_of};
-ghost use Rattle.store.specs.Lent.{lent_of};
+ghost use Rattle.card.specs.Step.{step_of, lent_after, output_of};
+ghost use Rattle.card_blocks.specs.Lending.{held, Leaves};
+ghost use Rattle.store.specs.Lent.{lent_of, seen};
 ghost use Rattle.text.specs.Writing.{Line};
 
 use crate::answers::reply_line;
-use base::{fill, least};
+use base::fill;
 use card::Call;
-use card_blocks::Stepped;
+use card_blocks::{Lending, Stepped};
 use card_record::Card;
 use cardline_looks::space;
 use cardline_script::{Calling, Sizes};
 use text::parts::part;
 
-// A call of the card, through the socket, lent so much of each buffer.
-fn lent_step(
+// A call of the card, through the socket. Memory and map come apart: of a part cut from a buffer and then lent in a struct, the check does not know what it holds afterwards.
+fn step(
     card: Card,
-    lent: Sizes,
     call: Call,
     input: &[u8],
     memory: &mut [u8],
     map: &mut [u8],
     output: &mut [u8],
 ) -> Stepped
-    ensures answer { result ≡ step_lent card lent call input.now (lent_of memory.old map.old) (length output.old) }
-    ensures lent { lent_of memory.new map.new ≡ buffers_lent card lent call input.now (lent_of memory.old map.old) }
-    ensures output { output.new ≡ output_lent card lent call (lent_of memory.old map.old) output.old }
+    ensures answer { result ≡ step_of card call input.now (seen (lent_of memory.old map.old)) (length output.old) }
+    ensures lent { lent_of memory.new map.new ≡ lent_after card call input.now (lent_of memory.old map.old) }
+    ensures output { output.new ≡ output_of card call (lent_of memory.old map.old) output.old }
 {
-    let k = least(lent.memory as usize, memory.len());
-    let j = least(lent.map as usize, map.len());
-    socket::step_in_place(card, call, input, &mut memory[0..k], &mut map[0..j], output)
+    socket::step_in_place(card, call, input, &mut Lending { memory, map }, output)
+}
+
+// The same, lent so much of each buffer.
+fn lent_step(
+    card: Card,
+    lent: Sizes,
+    call: Call,
+    input: &[u8],
+    buffers: &mut Lending,
+    output: &mut [u8],
+) -> Stepped
+    ensures answer { result ≡ step_lent card lent call input.now (held buffers.old) (length output.old) }
+    ensures lent { Leaves buffers.old buffers.new (buffers_lent card lent call input.now (held buffers.old)) }
+    ensures output { output.new ≡ output_lent card lent call (held buffers.old) output.old }
+{
+    let k = (lent.memory as usize).min(buffers.memory.len());
+    let j = (lent.map as usize).min(buffers.map.len());
+    let (memory, map) = (&mut buffers.memory[..k], &mut buffers.map[..j]);
+    step(card, call, input, memory, map, output)
 }
 
 // What a call leaves: the next record, and the bytes of its line.
@@ -49,17 +67,16 @@ fn call_into(
     lent: Sizes,
     call: Call,
     input: &[u8],
-    memory: &mut [u8],
-    map: &mut [u8],
+    buffers: &mut Lending,
     output: &mut [u8],
     out: &mut [u8],
 ) -> Left
-    ensures record { result.card ≡ (step_lent card lent call input.now (lent_of memory.old map.old) (length output.old)).card }
-    ensures lent { lent_of memory.new map.new ≡ buffers_lent card lent call input.now (lent_of memory.old map.old) }
-    ensures line { Line (line_room 20 (max 17 (length output.old))) out.old out.new result.wrote (call_text count card lent call input.now (lent_of memory.old map.old) (length output.old)) }
+    ensures record { result.card ≡ (step_lent card lent call input.now (held buffers.old) (length output.old)).card }
+    ensures lent { Leaves buffers.old buffers.new (buffers_lent card lent call input.now (held buffers.old)) }
+    ensures line { Line (line_room 20 (max 17 (length output.old))) out.old out.new result.wrote (call_text count card lent call input.now (held buffers.old) (length output.old)) }
 {
     fill(output, 0xA5);
-    let stepped = lent_step(card, lent, call, input, memory, map, output);
+    let stepped = lent_step(card, lent, call, input, buffers, output);
     let reply = stepped.reply;
     let wrote = reply_line(count, call, card.registers, reply, output, out);
     let next = stepped.card;
@@ -70,10 +87,7 @@ fn called_by(calling: Calling) -> Call
     ensures { result ≡ called_by calling }
 {
     match calling {
-        Calling::Frame {
-            length: _,
-            selected,
-        } => Call::Frame {
+        Calling::Frame { selected, .. } => Call::Frame {
             wins: true,
             selected,
         },
@@ -88,14 +102,9 @@ fn input_of(calling: Calling, script: &[u8]) -> &[u8]
     ensures { result.now ≡ input_of calling script.now }
 {
     match calling {
-        Calling::Frame {
-            length,
-            selected: _,
-        } => part(script, 2, length as usize),
+        Calling::Frame { length, .. } => part(script, 2, length as usize),
         Calling::BlockIn(n) => part(script, 3, n as usize),
-        Calling::BlockOut(_) => part(script, 0, 0),
-        Calling::WorkDone => part(script, 0, 0),
-        Calling::PowerOn => part(script, 0, 0),
+        Calling::BlockOut(_) | Calling::WorkDone | Calling::PowerOn => b"",
     }
 }
 
@@ -103,16 +112,10 @@ fn room_of(calling: Calling) -> usize
     ensures room { result ≡ room_of calling }
     ensures within { result < 65536 }
 {
-    match calling {
-        Calling::Frame {
-            length: _,
-            selected: _,
-        } => 0,
-        Calling::BlockIn(_) => 0,
-        Calling::BlockOut(n) => n as usize,
-        Calling::WorkDone => 0,
-        Calling::PowerOn => 0,
+    if let Calling::BlockOut(n) = calling {
+        return n as usize;
     }
+    0
 }
 
 // The call of a record at the front of a script, of a card that is lent so much of two buffers.
@@ -122,13 +125,12 @@ pub fn called(
     lent: Sizes,
     calling: Calling,
     script: &[u8],
-    memory: &mut [u8],
-    map: &mut [u8],
+    buffers: &mut Lending,
     out: &mut [u8],
 ) -> Left
-    ensures record { result.card ≡ (step_lent card lent (called_by calling) (input_of calling script.now) (lent_of memory.old map.old) (room_of calling)).card }
-    ensures lent { lent_of memory.new map.new ≡ buffers_lent card lent (called_by calling) (input_of calling script.now) (lent_of memory.old map.old) }
-    ensures line { Line roomy out.old out.new result.wrote (call_text count card lent (called_by calling) (input_of calling script.now) (lent_of memory.old map.old) (room_of calling)) }
+    ensures record { result.card ≡ (step_lent card lent (called_by calling) (input_of calling script.now) (held buffers.old) (room_of calling)).card }
+    ensures lent { Leaves buffers.old buffers.new (buffers_lent card lent (called_by calling) (input_of calling script.now) (held buffers.old)) }
+    ensures line { Line roomy out.old out.new result.wrote (call_text count card lent (called_by calling) (input_of calling script.now) (held buffers.old) (room_of calling)) }
 {
     let call = called_by(calling);
     let input = input_of(calling, script);
@@ -140,9 +142,8 @@ pub fn called(
         lent,
         call,
         input,
-        memory,
-        map,
-        &mut space[0..n],
+        buffers,
+        &mut space[..n],
         out,
     )
 }

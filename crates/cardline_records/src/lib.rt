@@ -23,6 +23,7 @@ ghost use Rattle.cardline_records.specs.Transcript.{cut_text};
 ghost use Rattle.store.specs.Lent.{lent_of};
 ghost use Rattle.text.specs.Writing.{Put};
 
+use card_blocks::Lending;
 use card_record::Card;
 use cardline_looks::ROOMY;
 use cardline_script::Sizes;
@@ -35,6 +36,7 @@ use text::lines::plain;
 // map, and of what its calls are lent; how many records were carried out since the make.
 #[derive(Clone, Copy)]
 pub struct Progress {
+    // Not an `Option`: `fresh_progress` and the laws of a record name a card whatever `made` says, that of a refused make.
     pub card: Card,
     pub made: bool,
     pub own: Sizes,
@@ -42,17 +44,11 @@ pub struct Progress {
     pub count: u64,
 }
 
-// What a record leaves: the bytes of the script that it took, and those of its line at the front of
-// the output; how the script goes on.
-#[derive(Clone, Copy)]
-pub struct Said {
-    pub progress: Progress,
-    pub used: usize,
-    pub wrote: usize,
-    pub then: Then,
-}
+// What a record leaves.
+pub type Said = playing::Said<Progress>;
 
 // Before a script: no card, for which the record of a refused make stands, and nothing lent.
+#[tactic(auto, unfolding(crate::specs::Progress::fresh_progress))]
 pub fn fresh() -> Progress
     ensures answer { result ≡ fresh_progress }
 {
@@ -66,6 +62,7 @@ pub fn fresh() -> Progress
 }
 
 // The record at the front of what is left of a script.
+#[tactic(auto, unfolding(crate::specs::Record::said_of, crate::specs::Record::buffers_after, crate::specs::Record::text_of))]
 pub fn carry_out(
     progress: Progress,
     script: &[u8],
@@ -81,7 +78,7 @@ pub fn carry_out(
         return left_alone(progress, Then::NoRoom);
     }
     let asked = cardline_script::read(progress.made, script);
-    obey(progress, asked, script, memory, map, out)
+    obey(progress, asked, script, &mut Lending { memory, map }, out)
 }
 
 // The line at the end of the input, where so many bytes are left over of it: `cut`, or none.

@@ -4,12 +4,14 @@
 ghost use Rattle.std.specs.Prelude.{◌≡◌, length};
 ghost use Rattle.cardline_looks.specs.Lines.{roomy};
 ghost use Rattle.cardline_records.specs.Makes.{memory_filled, buffers_made, register_at, made_from, card_made, made_progress, make_text, make_said};
-ghost use Rattle.store.specs.Lent.{lent_of, seen_of};
+ghost use Rattle.store.specs.Lent.{seen_of};
+ghost use Rattle.card_blocks.specs.Lending.{held, Leaves};
 ghost use Rattle.text.specs.Writing.{Line};
 
 use crate::results::{ends, goes_on};
 use crate::{Progress, Said};
-use base::{copy, fill, least};
+use base::{Refusal, copy, fill};
+use card_blocks::Lending;
 use card_record::{Card, Made};
 use cardline_script::numbers::four;
 use cardline_script::{Making, Sizes};
@@ -20,21 +22,21 @@ use text::parts::part;
 fn fill_front(n: usize, value: u8, memory: &mut [u8])
     ensures { memory.new ≡ memory_filled n value memory.old }
 {
-    let k = least(n, memory.len());
-    fill(&mut memory[0..k], value);
+    let k = n.min(memory.len());
+    fill(&mut memory[..k], value);
 }
 
 // The 16 bytes of a register.
 fn register(script: &[u8], at: usize) -> [u8; 16]
     ensures { result ≡ register_at script.now at }
 {
-    let mut bytes = [0u8; 16];
-    let given = part(script, at, 16);
-    copy(given, &mut bytes, 0);
+    let mut bytes = [0; 16];
+    copy(part(script, at, 16), &mut bytes, 0);
     bytes
 }
 
 // The card of a record, lent so much of a memory and this map.
+#[tactic(auto, unfolding(crate::specs::Makes::made_from))]
 fn made_of(making: Making, script: &[u8], memory: &[u8], map: &[u8]) -> Made
     ensures { result ≡ made_from making script.now (seen_of (length memory.now) map.now) }
 {
@@ -47,13 +49,14 @@ fn made_of(making: Making, script: &[u8], memory: &[u8], map: &[u8]) -> Made
 }
 
 // The memory and the map filled, and the card made that is lent them.
-fn make_card(making: Making, script: &[u8], memory: &mut [u8], map: &mut [u8]) -> Made
-    ensures answer { result ≡ card_made making script.now (lent_of memory.old map.old) }
-    ensures lent { lent_of memory.new map.new ≡ buffers_made making script.now (lent_of memory.old map.old) }
+#[tactic(auto, unfolding(crate::specs::Makes::card_made))]
+fn make_card(making: Making, script: &[u8], buffers: &mut Lending) -> Made
+    ensures answer { result ≡ card_made making script.now (held buffers.old) }
+    ensures lent { Leaves buffers.old buffers.new (buffers_made making script.now (held buffers.old)) }
 {
+    let (memory, map) = (&mut *buffers.memory, &mut *buffers.map);
     fill_front(making.memory as usize, making.fill, memory);
-    let given = part(script, 6, making.map as usize);
-    copy(given, map, 0);
+    copy(part(script, 6, making.map as usize), map, 0);
     let own = part(memory, 0, making.memory as usize);
     let entries = part(map, 0, making.map as usize);
     made_of(making, script, own, entries)
@@ -63,30 +66,30 @@ pub fn make(
     progress: Progress,
     making: Making,
     script: &[u8],
-    memory: &mut [u8],
-    map: &mut [u8],
+    buffers: &mut Lending,
     out: &mut [u8],
 ) -> Said
-    ensures answer { result ≡ make_said progress making (card_made making script.now (lent_of memory.old map.old)).card (card_made making script.now (lent_of memory.old map.old)).making result.wrote }
-    ensures lent { lent_of memory.new map.new ≡ buffers_made making script.now (lent_of memory.old map.old) }
-    ensures line { Line roomy out.old out.new result.wrote (make_text (card_made making script.now (lent_of memory.old map.old)).making) }
+    ensures answer { result ≡ make_said progress making (card_made making script.now (held buffers.old)).card (card_made making script.now (held buffers.old)).making result.wrote }
+    ensures lent { Leaves buffers.old buffers.new (buffers_made making script.now (held buffers.old)) }
+    ensures line { Line roomy out.old out.new result.wrote (make_text (card_made making script.now (held buffers.old)).making) }
 {
-    let made = make_card(making, script, memory, map);
+    let made = make_card(making, script, buffers);
     let outcome = made.making;
     let wrote = make_line(outcome, out);
     make_said(progress, making, made, wrote)
 }
 
-fn make_line(outcome: card_record::Making, out: &mut [u8]) -> usize
+fn make_line(outcome: Result<(), Refusal>, out: &mut [u8]) -> usize
     ensures { Line roomy out.old out.new result (make_text outcome) }
 {
     match outcome {
-        card_record::Making::Done => plain(b"made", out),
-        card_record::Making::Refused(refusal) => refused_by(refusal, out),
+        Ok(()) => plain(b"made", out),
+        Err(refusal) => refused_by(refusal, out),
     }
 }
 
 // The progress of a new card.
+#[tactic(auto, unfolding(crate::specs::Makes::made_progress))]
 fn made_progress(making: Making, card: Card) -> Progress
     ensures { result ≡ made_progress making card }
 {
@@ -110,11 +113,11 @@ fn make_said(progress: Progress, making: Making, made: Made, wrote: usize) -> Sa
 {
     let outcome = made.making;
     match outcome {
-        card_record::Making::Done => goes_on(
+        Ok(()) => goes_on(
             made_progress(making, made.card),
             making.map as usize + 43 + making.password as usize,
             wrote,
         ),
-        card_record::Making::Refused(_) => ends(progress, wrote),
+        Err(_) => ends(progress, wrote),
     }
 }

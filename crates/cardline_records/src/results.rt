@@ -10,16 +10,14 @@ use cardline_script::Sizes;
 use playing::Then;
 
 // With the number of the next record.
+#[tactic(auto, unfolding(crate::specs::Progress::record_counted))]
 pub fn counted(progress: Progress) -> Progress
     ensures { result ≡ record_counted progress }
 {
-    if progress.count < 18446744073709551615 {
-        return Progress {
-            count: progress.count + 1,
-            ..progress
-        };
+    Progress {
+        count: progress.count.saturating_add(1),
+        ..progress
     }
-    progress
 }
 
 pub fn with_card(progress: Progress, card: Card) -> Progress

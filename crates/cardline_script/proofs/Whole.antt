@@ -14,12 +14,13 @@ use lib.Dec.{eqb, leb, eqb-suc-zero}
 use lib.ListN.{length, length-append, get_or-append}
 use Rattle.base.proofs.Cases.{cases, never}
 use Rattle.base.specs.Choice.{pick, unless}
-use Rattle.cardline_script.specs.Reading.{byte_at, two, three, four, complete, making_asked, make_asked, frame_asked, counted_asked, block_in_asked, block_out_asked, memory_asked, lend_asked, poke_asked, write_frame_asked, write_block_asked, check_asked, spi_asked, shown_asked, more_asked, asked_of}
+use Rattle.std.specs.Prelude.{Ok, Err}
+use Rattle.cardline_script.specs.Reading.{Read, byte_at, two, three, four, complete, making_asked, make_asked, frame_asked, counted_asked, block_in_asked, block_out_asked, memory_asked, lend_asked, poke_asked, write_frame_asked, write_block_asked, check_asked, spi_asked, shown_asked, more_asked, asked_of}
 use Rattle.cardline_script.specs.Whole.{waits, used_asked, longest_record}
-use Rattle.cardline_script.specs.declared.Asked.{Asked}
-use Rattle.cardline_script.specs.declared.Asked.TheVariants.{Stop, Go}
+use Rattle.cardline_script.specs.declared.Asked.TheVariants.{Go}
 use Rattle.cardline_script.specs.declared.Calling.TheVariants.{WorkDone, PowerOn}
 use Rattle.cardline_script.specs.declared.Going.TheVariants.{Call, Look}
+use Rattle.cardline_script.specs.declared.Halt.TheVariants.{Stop}
 use Rattle.cardline_script.specs.declared.Looking.TheVariants.{Card, Mode}
 use Rattle.cardline_script.specs.declared.Stop.TheVariants.{NoCard, BadKind, TooBig}
 
@@ -28,7 +29,7 @@ abbrev pub Bytes : List ℕ → Type 0
 Bytes s = (i : ℕ) → byte_at s i < 256
 
 -- a is what the bytes at hand ask for, b what they ask for with others behind them
-pub record Reads (s : List ℕ) (a b : Asked) : Type 0 where
+pub record Reads (s : List ℕ) (a b : Read) : Type 0 where
   pub same : waits a ≡ false → b ≡ a
   pub within : used_asked a ≤ length s
   pub few : Bytes s → waits a ≡ true → length s < longest_record
@@ -50,10 +51,10 @@ module _ (s t : List ℕ) where
   four_stays i h = rw (two_stays i (omega arith), byte_stays (i + 2) (omega arith), byte_stays (i + 3) h)
 
   -- the same wherever the bytes stop
-  settled : (a : Asked) → waits a ≡ false → used_asked a ≤ length s → Reads s a a
+  settled : (a : Read) → waits a ≡ false → used_asked a ≤ length s → Reads s a a
   settled a w h = record { same = λ e. refl; within = h; few = λ bytes e. never (sym w ∙ e) }
 
-  complete_reads : (n m : ℕ) (a b : Asked) → (Bytes s → n ≤ longest_record) → (n ≤ length s → m ≡ n) → (n ≤ length s → Reads s a b)
+  complete_reads : (n m : ℕ) (a b : Read) → (Bytes s → n ≤ longest_record) → (n ≤ length s → m ≡ n) → (n ≤ length s → Reads s a b)
       → Reads s (complete n s a) (complete m (s ++ t) b)
   complete_reads n m a b small same then =
       cases (leb n (length s))
@@ -66,15 +67,15 @@ module _ (s t : List ℕ) where
       let h : length s < n = leb-false n (length s) e in
       rw e (record { same = λ w. never (sym w); within = omega arith; few = λ bytes w. let k = small bytes in omega arith }))
 
-  limit_reads : (limit n m : ℕ) (a b : Asked) → m ≡ n → (n ≤ limit → Reads s a b)
-      → Reads s (unless (leb n limit) (Stop TooBig) a) (unless (leb m limit) (Stop TooBig) b)
+  limit_reads : (limit n m : ℕ) (a b : Read) → m ≡ n → (n ≤ limit → Reads s a b)
+      → Reads s (unless (leb n limit) (Err (Stop TooBig)) a) (unless (leb m limit) (Err (Stop TooBig)) b)
   limit_reads limit n m a b j then =
       rw j
       (cases (leb n limit)
       (λ (e : leb n limit ≡ true). rw e (then (leb-true n limit e)))
-      (λ (e : leb n limit ≡ false). rw e (settled (Stop TooBig) refl (omega arith))))
+      (λ (e : leb n limit ≡ false). rw e (settled (Err (Stop TooBig)) refl (omega arith))))
 
-  pick_reads : (k : Bool) (a b c d : Asked) → Reads s a b → Reads s c d → Reads s (pick k a c) (pick k b d)
+  pick_reads : (k : Bool) (a b c d : Read) → Reads s a b → Reads s c d → Reads s (pick k a c) (pick k b d)
   pick_reads true a b c d h i = h
   pick_reads false a b c d h i = i
 
@@ -103,7 +104,7 @@ module _ (s t : List ℕ) where
       rw (byte_stays 1 (omega arith))
       (complete_reads (byte_at s 1 + 2) (byte_at s 1 + 2) _ _ (λ bytes. let k = bytes 1 in omega arith) (λ i. refl) (λ i. settled _ refl i)))
 
-  counted_reads : (more : ℕ) (a b : Asked) → more ≤ 2 → (two s 1 + 3 + more ≤ length s → Reads s a b)
+  counted_reads : (more : ℕ) (a b : Read) → more ≤ 2 → (two s 1 + 3 + more ≤ length s → Reads s a b)
       → Reads s (counted_asked s more a) (counted_asked (s ++ t) more b)
   unfolding counted_asked
   counted_reads more a b small then =
@@ -166,7 +167,7 @@ module _ (s t : List ℕ) where
     unfolding spi_asked
     spi_reads kind =
         pick_reads (eqb kind 0x0E) _ _ _ _ (frame_reads true)
-        (pick_reads (eqb kind 0x0F) _ _ _ _ (settled (Go (Look Mode)) refl some) (settled (Stop BadKind) refl (omega arith)))
+        (pick_reads (eqb kind 0x0F) _ _ _ _ (settled (Ok (Go (Look Mode))) refl some) (settled (Err (Stop BadKind)) refl (omega arith)))
 
     shown_reads : (kind : ℕ) → Reads s (shown_asked kind s) (shown_asked kind (s ++ t))
     unfolding shown_asked
@@ -184,15 +185,15 @@ module _ (s t : List ℕ) where
         pick_reads (eqb kind 0x02) _ _ _ _ (frame_reads false)
         (pick_reads (eqb kind 0x03) _ _ _ _ block_in_reads
         (pick_reads (eqb kind 0x04) _ _ _ _ block_out_reads
-        (pick_reads (eqb kind 0x05) _ _ _ _ (settled (Go (Call WorkDone)) refl some)
-        (pick_reads (eqb kind 0x06) _ _ _ _ (settled (Go (Call PowerOn)) refl some)
-        (pick_reads (eqb kind 0x07) _ _ _ _ (settled (Go (Look Card)) refl some) (shown_reads kind))))))
+        (pick_reads (eqb kind 0x05) _ _ _ _ (settled (Ok (Go (Call WorkDone))) refl some)
+        (pick_reads (eqb kind 0x06) _ _ _ _ (settled (Ok (Go (Call PowerOn))) refl some)
+        (pick_reads (eqb kind 0x07) _ _ _ _ (settled (Ok (Go (Look Card))) refl some) (shown_reads kind))))))
 
-    first_reads : (kind : ℕ) → Reads s (unless (eqb kind 0x01) (Stop NoCard) (make_asked s)) (unless (eqb kind 0x01) (Stop NoCard) (make_asked (s ++ t)))
+    first_reads : (kind : ℕ) → Reads s (unless (eqb kind 0x01) (Err (Stop NoCard)) (make_asked s)) (unless (eqb kind 0x01) (Err (Stop NoCard)) (make_asked (s ++ t)))
     first_reads kind =
         cases (eqb kind 0x01)
         (λ (e : eqb kind 0x01 ≡ true). rw e make_reads)
-        (λ (e : eqb kind 0x01 ≡ false). rw e (settled (Stop NoCard) refl (omega arith)))
+        (λ (e : eqb kind 0x01 ≡ false). rw e (settled (Err (Stop NoCard)) refl (omega arith)))
 
 -- the record at the front of a piece
 reads : (made : Bool) (s t : List ℕ) → Reads s (asked_of made s) (asked_of made (s ++ t))

@@ -18,34 +18,36 @@ use native.Mathlib.Omega.{arith}
 use lib.ListN.{replicate}
 use Rattle.cardline_script.specs.Reading.{byte_at, two, four, frame_asked, counted_asked, spi_asked, shown_asked, more_asked, asked_of}
 use Rattle.cardline_script.specs.Whole.{used_going}
-use Rattle.cardline_script.specs.declared.Asked.TheVariants as asked
-use Rattle.cardline_script.specs.declared.Asked.TheVariants.{More, Make, Go}
+use Rattle.std.specs.Prelude.{Ok, Err}
+use Rattle.cardline_script.specs.declared.Asked.TheVariants.{Make, Go}
 use Rattle.cardline_script.specs.declared.Calling.TheVariants.{Frame, WorkDone}
 use Rattle.cardline_script.specs.declared.Going.TheVariants.{Call}
+use Rattle.cardline_script.specs.declared.Halt.TheVariants as halt
+use Rattle.cardline_script.specs.declared.Halt.TheVariants.{More}
 use Rattle.cardline_script.specs.declared.Making.{Making}
 use Rattle.cardline_script.specs.declared.Stop.{Stop}
 
-cut_taken : asked_of true (2 ∷ 6 ∷ replicate 5 0) ≡ Go (Call (Frame 6 false)) → ⊥
+cut_taken : asked_of true (2 ∷ 6 ∷ replicate 5 0) ≡ Ok (Go (Call (Frame 6 false))) → ⊥
 unfolding asked_of more_asked frame_asked
 cut_taken e = let z : ◌≡◌ {A = ℕ} 0 1 = cc in omega arith
 
-second_make : (making : Making) → asked_of true (1 ∷ replicate 45 0) ≡ Make making → ⊥
+second_make : (making : Making) → asked_of true (1 ∷ replicate 45 0) ≡ Ok (Make making) → ⊥
 unfolding asked_of more_asked shown_asked spi_asked
 second_make making e = let z : ◌≡◌ {A = ℕ} 0 1 = cc in omega arith
 
-low_as_high : asked_of true (14 ∷ 0 ∷ []) ≡ Go (Call (Frame 0 false)) → ⊥
+low_as_high : asked_of true (14 ∷ 0 ∷ []) ≡ Ok (Go (Call (Frame 0 false))) → ⊥
 unfolding asked_of more_asked shown_asked spi_asked frame_asked
 low_as_high e = let z : ◌≡◌ {A = ℕ} 0 1 = cc in omega arith
 
-no_card_taken : asked_of false (2 ∷ 0 ∷ []) ≡ Go (Call (Frame 0 false)) → ⊥
+no_card_taken : asked_of false (2 ∷ 0 ∷ []) ≡ Ok (Go (Call (Frame 0 false))) → ⊥
 unfolding asked_of
 no_card_taken e = let z : ◌≡◌ {A = ℕ} 0 1 = cc in omega arith
 
-more_before_big : asked_of true (3 ∷ 0x10 ∷ 0x01 ∷ []) ≡ More → ⊥
+more_before_big : asked_of true (3 ∷ 0x10 ∷ 0x01 ∷ []) ≡ Err More → ⊥
 unfolding asked_of more_asked counted_asked two
 more_before_big e = let z : ◌≡◌ {A = ℕ} 0 1 = cc in omega arith
 
-ended_stops : (stop : Stop) → asked_of true [] ≡ asked.Stop stop → ⊥
+ended_stops : (stop : Stop) → asked_of true [] ≡ Err (halt.Stop stop) → ⊥
 unfolding asked_of
 ended_stops stop e = let z : ◌≡◌ {A = ℕ} 0 1 = cc in omega arith
 

@@ -1,23 +1,24 @@
 -- A script that is read piece by piece: whether the record at the front of a piece is whole, and how many bytes it has.
 -- Assumes nothing.
-use Rattle.std.specs.Prelude.{Bool, true, false, ℕ, ◌+◌}
-use Rattle.cardline_script.specs.declared.Asked.{Asked}
-use Rattle.cardline_script.specs.declared.Asked.TheVariants as asked
+use Rattle.std.specs.Prelude.{Bool, true, false, ℕ, ◌+◌, Ok, Err}
+use Rattle.cardline_script.specs.Reading.{Read}
+use Rattle.cardline_script.specs.declared.Asked.TheVariants.{Make, Go}
 use Rattle.cardline_script.specs.declared.Calling.{Calling}
 use Rattle.cardline_script.specs.declared.Calling.TheVariants.{Frame, BlockIn, BlockOut, WorkDone, PowerOn}
 use Rattle.cardline_script.specs.declared.Going.{Going}
 use Rattle.cardline_script.specs.declared.Going.TheVariants.{Call, Look, Wire}
+use Rattle.cardline_script.specs.declared.Halt.TheVariants.{More, Stop}
 use Rattle.cardline_script.specs.declared.Looking.{Looking}
 use Rattle.cardline_script.specs.declared.Looking.TheVariants.{Card, Mode, Memory, Lend, Poke}
 use Rattle.cardline_script.specs.declared.Wiring.{Wiring}
 use Rattle.cardline_script.specs.declared.Wiring.TheVariants.{Frame as WireFrame, Block, Check}
 
 -- whether the record at the front is not whole yet
-abbrev pub waits : Asked → Bool
-waits asked.More = true
-waits (asked.Stop stop) = false
-waits (asked.Make making) = false
-waits (asked.Go going) = false
+abbrev pub waits : Read → Bool
+waits (Err More) = true
+waits (Err (Stop stop)) = false
+waits (Ok (Make making)) = false
+waits (Ok (Go going)) = false
 
 -- how many bytes a record has, its kind among them
 abbrev pub used_by : Calling → ℕ
@@ -44,11 +45,11 @@ used_going (Call calling) = used_by calling
 used_going (Look looking) = used_looked looking
 used_going (Wire wiring) = used_wiring wiring
 
-abbrev pub used_asked : Asked → ℕ
-used_asked asked.More = 0
-used_asked (asked.Stop stop) = 0
-used_asked (asked.Make making) = making.map + 43 + making.password
-used_asked (asked.Go going) = used_going going
+abbrev pub used_asked : Read → ℕ
+used_asked (Err More) = 0
+used_asked (Err (Stop stop)) = 0
+used_asked (Ok (Make making)) = making.map + 43 + making.password
+used_asked (Ok (Go going)) = used_going going
 
 -- the longest record, 0C with 4,096 bytes: 3 bytes, those, and O (2)
 abbrev pub longest_record : ℕ

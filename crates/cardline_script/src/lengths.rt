@@ -10,14 +10,10 @@ fn used_by(calling: Calling) -> usize
     ensures { result ≡ used_by calling }
 {
     match calling {
-        Calling::Frame {
-            length,
-            selected: _,
-        } => length as usize + 2,
+        Calling::Frame { length, .. } => length as usize + 2,
         Calling::BlockIn(n) => n as usize + 3,
         Calling::BlockOut(_) => 3,
-        Calling::WorkDone => 1,
-        Calling::PowerOn => 1,
+        Calling::WorkDone | Calling::PowerOn => 1,
     }
 }
 
@@ -25,11 +21,10 @@ fn used_looked(looking: Looking) -> usize
     ensures { result ≡ used_looked looking }
 {
     match looking {
-        Looking::Card => 1,
-        Looking::Mode => 1,
-        Looking::Memory { from: _, length: _ } => 6,
+        Looking::Card | Looking::Mode => 1,
+        Looking::Memory { .. } => 6,
         Looking::Lend(_) => 5,
-        Looking::Poke { entry: _, value: _ } => 3,
+        Looking::Poke { .. } => 3,
     }
 }
 
@@ -37,12 +32,8 @@ fn used_wiring(wiring: Wiring) -> usize
     ensures { result ≡ used_wiring wiring }
 {
     match wiring {
-        Wiring::Frame {
-            index: _,
-            argument: _,
-            room: _,
-        } => 7,
-        Wiring::Block { length, room: _ } => length as usize + 5,
+        Wiring::Frame { .. } => 7,
+        Wiring::Block { length, .. } => length as usize + 5,
         Wiring::Check(length) => length as usize + 3,
     }
 }

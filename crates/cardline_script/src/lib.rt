@@ -1,7 +1,7 @@
 // A script of `cardline`: a row of records, each a byte of kind and a body. What the record at the
 // front of what is left of a script asks for, and whether all of it is there.
 //
-// Offers: `Sizes`, `Stop`, `Making`, `Calling`, `Looking`, `Wiring`, `Going`, `Asked`; `read`, `used`;
+// Offers: `Sizes`, `Stop`, `Making`, `Calling`, `Looking`, `Wiring`, `Going`, `Asked`, `Halt`; `read`, `used`;
 // and `numbers::four`.
 #![tactic(auto)]
 
@@ -10,14 +10,13 @@ mod lengths;
 pub mod numbers;
 
 ghost use Rattle.std.specs.Prelude.{◌≡◌};
-ghost use Rattle.cardline_script.specs.Reading.{more_asked, shown_asked, spi_asked, asked_of};
+ghost use Rattle.cardline_script.specs.Reading.{more_asked, asked_of};
 
 use kinds::{
-    block_out_asked, counted_asked, frame_asked, lend_asked, make_asked, memory_asked, poke_asked,
-    write_block_asked, write_frame_asked,
+    block_in_asked, block_out_asked, check_asked, frame_asked, lend_asked, make_asked,
+    memory_asked, poke_asked, write_block_asked, write_frame_asked,
 };
 pub use lengths::used;
-use numbers::{byte, two};
 
 // The bytes of a memory and of a map.
 #[derive(Clone, Copy)]
@@ -80,93 +79,54 @@ pub enum Going {
     Wire(Wiring),
 }
 
-// What a record asks for: more bytes, where it is not whole yet.
+// What a record asks for.
 #[derive(Clone, Copy)]
 pub enum Asked {
-    More,
-    Stop(Stop),
     Make(Making),
     Go(Going),
 }
 
+// Why a record is not carried out: more bytes are wanted, where it is not whole yet, or the script goes
+// no further.
+#[derive(Clone, Copy)]
+pub enum Halt {
+    More,
+    Stop(Stop),
+}
+
 // A record of a script whose card is made.
-fn more_asked(kind: u8, script: &[u8]) -> Asked
+#[tactic(auto, unfolding(crate::specs::Reading::more_asked, crate::specs::Reading::shown_asked, crate::specs::Reading::spi_asked))]
+fn more_asked(kind: u8, script: &[u8]) -> Result<Asked, Halt>
     ensures { result ≡ more_asked kind script.now }
 {
-    if kind == 2 {
-        return frame_asked(script, false);
+    match kind {
+        0x02 => frame_asked(script, false),
+        0x03 => block_in_asked(script),
+        0x04 => block_out_asked(script),
+        0x05 => Ok(Asked::Go(Going::Call(Calling::WorkDone))),
+        0x06 => Ok(Asked::Go(Going::Call(Calling::PowerOn))),
+        0x07 => Ok(Asked::Go(Going::Look(Looking::Card))),
+        0x08 => memory_asked(script),
+        0x09 => lend_asked(script),
+        0x0A => poke_asked(script),
+        0x0B => write_frame_asked(script),
+        0x0C => write_block_asked(script),
+        0x0D => check_asked(script),
+        0x0E => frame_asked(script, true),
+        0x0F => Ok(Asked::Go(Going::Look(Looking::Mode))),
+        _ => Err(Halt::Stop(Stop::BadKind)),
     }
-    if kind == 3 {
-        let n = two(script, 1);
-        return counted_asked(script, 0, Asked::Go(Going::Call(Calling::BlockIn(n))));
-    }
-    if kind == 4 {
-        return block_out_asked(script);
-    }
-    if kind == 5 {
-        return Asked::Go(Going::Call(Calling::WorkDone));
-    }
-    if kind == 6 {
-        return Asked::Go(Going::Call(Calling::PowerOn));
-    }
-    if kind == 7 {
-        return Asked::Go(Going::Look(Looking::Card));
-    }
-    shown_asked(kind, script)
-}
-
-// The kinds from 08 to 0D.
-fn shown_asked(kind: u8, script: &[u8]) -> Asked
-    ensures { result ≡ shown_asked kind script.now }
-{
-    if kind == 8 {
-        return memory_asked(script);
-    }
-    if kind == 9 {
-        return lend_asked(script);
-    }
-    if kind == 10 {
-        return poke_asked(script);
-    }
-    if kind == 11 {
-        return write_frame_asked(script);
-    }
-    if kind == 12 {
-        return write_block_asked(script);
-    }
-    if kind == 13 {
-        let n = two(script, 1);
-        return counted_asked(script, 0, Asked::Go(Going::Wire(Wiring::Check(n))));
-    }
-    spi_asked(kind, script)
-}
-
-// The kinds from 0E on.
-fn spi_asked(kind: u8, script: &[u8]) -> Asked
-    ensures { result ≡ spi_asked kind script.now }
-{
-    if kind == 14 {
-        return frame_asked(script, true);
-    }
-    if kind == 15 {
-        return Asked::Go(Going::Look(Looking::Mode));
-    }
-    Asked::Stop(Stop::BadKind)
 }
 
 // A record, with whether a card was made before it.
-pub fn read(made: bool, script: &[u8]) -> Asked
+#[tactic(auto, unfolding(crate::specs::Reading::asked_of))]
+pub fn read(made: bool, script: &[u8]) -> Result<Asked, Halt>
     ensures answer { result ≡ asked_of made script.now }
 {
-    if script.len() == 0 {
-        return Asked::More;
+    match script.first() {
+        None => Err(Halt::More),
+        Some(kind) if made => more_asked(*kind, script),
+        Some(0x01) => make_asked(script),
+        Some(_) => Err(Halt::Stop(Stop::NoCard)),
     }
-    let kind = byte(script, 0);
-    if made {
-        return more_asked(kind, script);
-    }
-    if kind != 1 {
-        return Asked::Stop(Stop::NoCard);
-    }
-    make_asked(script)
 }

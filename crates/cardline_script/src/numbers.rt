@@ -7,40 +7,44 @@ ghost use Rattle.cardline_script.specs.Reading.{two, three, four};
 pub fn byte(script: &[u8], at: usize) -> u8
     ensures answer { result ≡ get_or script.now at 0 }
 {
-    if at < script.len() {
-        return script[at];
-    }
-    0
+    script.get(at).copied().unwrap_or(0)
 }
 
-// The byte so many places further on: no place is so far that the sum would not fit.
+// The byte so many places further on: where the sum doesn't fit, no script is so long.
 fn further(script: &[u8], at: usize, more: usize) -> u8
     ensures { result ≡ get_or script.now (at + more) 0 }
 {
-    if script.len() <= at {
-        return 0;
-    }
-    if script.len() - at <= more {
-        return 0;
-    }
-    script[at + more]
+    byte(script, at.saturating_add(more))
 }
 
+// Each length for itself: one `[u8; N]` by `array::from_fn` was tried, and its proof did not close.
+#[tactic(auto, unfolding(crate::specs::Reading::two))]
 pub fn two(script: &[u8], at: usize) -> u16
     ensures answer { result ≡ two script.now at }
 {
-    (byte(script, at) as u16) * 256 + (further(script, at, 1) as u16)
+    u16::from_be_bytes([byte(script, at), further(script, at, 1)])
 }
 
+#[tactic(auto, unfolding(crate::specs::Reading::two, crate::specs::Reading::three))]
 pub fn three(script: &[u8], at: usize) -> u32
     ensures answer { result ≡ three script.now at }
 {
-    (two(script, at) as u32) * 256 + (further(script, at, 2) as u32)
+    u32::from_be_bytes([
+        0,
+        byte(script, at),
+        further(script, at, 1),
+        further(script, at, 2),
+    ])
 }
 
+#[tactic(auto, unfolding(crate::specs::Reading::two, crate::specs::Reading::four))]
 pub fn four(script: &[u8], at: usize) -> u32
     ensures answer { result ≡ four script.now at }
 {
-    let high = (two(script, at) as u32) * 65536;
-    high + (further(script, at, 2) as u32) * 256 + (further(script, at, 3) as u32)
+    u32::from_be_bytes([
+        byte(script, at),
+        further(script, at, 1),
+        further(script, at, 2),
+        further(script, at, 3),
+    ])
 }

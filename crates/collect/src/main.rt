@@ -29,33 +29,29 @@ fn docked(bus: Bus, cid: [u8; 16]) -> Bus {
 
 // A command for all units.
 fn send(bus: Bus, index: u8, argument: u32) -> Framed {
-    let mut frame = [0u8; 6];
-    wire::write_command(index, argument, &mut frame);
-    bus::frame(bus, &frame)
+    bus::frame(bus, &own::command(index, argument))
 }
 
 // The same, where what the line shows is no matter.
 fn tell(bus: Bus, index: u8, argument: u32) -> Bus {
-    let framed = send(bus, index, argument);
-    framed.bus
+    send(bus, index, argument).bus
 }
 
 // CMD1 makes all ready. Then CMD2 asks who is there, until nobody answers: how many rounds were
 // answered. 30 units can answer no more than 30.
 fn rounds(rt: &impl Print, docked: Bus) -> u16 {
     let mut bus = tell(docked, 1, 0x00FF_8000);
-    let mut answered: u16 = 0;
-    while answered < 30 {
+    for answered in 0..30 {
         let asked = send(bus, 2, 0);
         let shown = asked.shown;
         let line = asked.line;
         if !say::heard(rt, shown, line) {
             return answered;
         }
-        answered += 1;
-        bus = reached(rt, asked.bus, answered as u32 * 65536, place_of(line));
+        let address = (u32::from(answered) + 1) << 16;
+        bus = reached(rt, asked.bus, address, place_of(line));
     }
-    answered
+    30
 }
 
 // Where the unit is that was heard, by the dock's own list: it knows of one with each identifier.
@@ -77,7 +73,8 @@ fn reached(rt: &impl Print, heard: Bus, address: u32, place: usize) -> Bus {
 
 // The unit in a place is taken out, writes and reads by its own calls, and is put back.
 fn collected(rt: &impl Print, bus: Bus, place: usize) -> Bus {
-    let taken = bus::take(bus, place);
-    let card = own::exchanged(rt, taken.card);
-    bus::put(bus, place, card)
+    let Some(card) = bus::take(bus, place) else {
+        return bus;
+    };
+    bus::put(bus, place, own::exchanged(rt, card))
 }

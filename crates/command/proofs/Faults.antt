@@ -36,11 +36,11 @@ use Rattle.card_record.specs.declared.Link.{Link}
 use Rattle.states.specs.States.{column_of}
 use Rattle.states.specs.declared.Column.{Column}
 use Rattle.status.specs.declared.ErrorBit.{ErrorBit}
-use Rattle.status.specs.declared.Fault.TheVariants.{None, Bit}
 use Rattle.tags.proofs.TagTheorems.{Drops, start_error_drops, end_error_drops}
 use Rattle.tags.specs.Tagging.{is_complete}
 use Rattle.tags.specs.declared.Kind.TheVariants.{Sectors, Groups}
 use Rattle.tags.specs.declared.Tags.{Tags}
+use Rattle.std.specs.Prelude.{Some, None}
 
 -- the commands that have no error to show: class 0 but for CMD3, 12 and 13
 abbrev pub faultless : List ℕ
@@ -170,7 +170,7 @@ answers_r1 row column there listed e =
     is_r1_lem (response_of row) (subst (λ (m : Move). T (if_moved m (is_r1 (response_of row)))) e t)
 
 module _ (link : Link) (met : Met) (index argument : ℕ) (bit : ErrorBit)
-    (faults : (judged_of link met.groups met.locked index argument).error ≡ Bit bit) where
+    (faults : (judged_of link met.groups met.locked index argument).error ≡ Some bit) where
   pub faulty : among index faultless ≡ false
   faulty =
       cases (among index faultless)

@@ -73,7 +73,6 @@ use Rattle.states.specs.declared.State.{State}
 use Rattle.states.specs.declared.State.TheVariants.{Idle, Ready, Ident, Stby, Tran, Data, Ina}
 use Rattle.status.specs.ErrorBits.{error_bit}
 use Rattle.status.specs.Status.{word_of}
-use Rattle.status.specs.declared.Fault.TheVariants.{None, Bit}
 use Rattle.tags.specs.Tagging.{no_tags, tags_of, end_tagged}
 use Rattle.tags.specs.declared.Kind.TheVariants.{Sectors}
 use Rattle.tags.specs.declared.Range.TheVariants.{Nothing, Start}
@@ -87,6 +86,7 @@ use Rattle.command.specs.declared.Met.{Met}
 use Rattle.command.specs.declared.Response.TheVariants.{Nothing as NoAnswer, R1, R2}
 use Rattle.card_record.specs.declared.Sent.TheVariants.{Status, Csd}
 use Rattle.moves.specs.declared.Row.TheVariants.{GoIdleState, DeselectCard}
+use Rattle.std.specs.Prelude.{Some, None}
 
 -- a card of address 1 and block length 512, with a state, pending bits and tags
 abbrev card : State → ℕ → Tags → Link
@@ -176,11 +176,11 @@ locked_read_judged : (judged_of (card Tran 0 no_tags) 1 true 17 0).error ≡ Non
 unfolding judged_of class_of
 locked_read_judged e = clash cc
 
-misaligned_out_of_range : (judged_of (card Tran 0 no_tags) 1 false 24 1).error ≡ Bit (error_bit 31) → ⊥
+misaligned_out_of_range : (judged_of (card Tran 0 no_tags) 1 false 24 1).error ≡ Some (error_bit 31) → ⊥
 unfolding judged_of tagging_of argument_fault
 misaligned_out_of_range e = clash cc
 
-end_misaligned : (judged_of (card Tran 0 no_tags) 1 false 24 7681).error ≡ Bit (error_bit 30) → ⊥
+end_misaligned : (judged_of (card Tran 0 no_tags) 1 false 24 7681).error ≡ Some (error_bit 30) → ⊥
 unfolding judged_of tagging_of argument_fault
 end_misaligned e = clash cc
 
@@ -228,7 +228,7 @@ lock_passes_tag : passes_lock true 32 ≡ true → ⊥
 unfolding class_of
 lock_passes_tag e = clash cc
 
-length_told_by_lock : (judged_of (card Tran 0 no_tags) 1 true 16 0).error ≡ Bit (error_bit 24) → ⊥
+length_told_by_lock : (judged_of (card Tran 0 no_tags) 1 true 16 0).error ≡ Some (error_bit 24) → ⊥
 unfolding judged_of tagging_of argument_fault class_of
 length_told_by_lock e = clash cc
 

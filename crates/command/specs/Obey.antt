@@ -1,6 +1,6 @@
 -- Document 01, "How a card takes a frame" and "Reading, writing, erasing, locking": what a command does to a card, whatever mode it came in.
 -- Assumes nothing.
-use Rattle.std.specs.Prelude.{Bool, true, false, not, ◌||◌, [], ◌∷◌, ℕ, ◌/◌, ◌%◌, eqb}
+use Rattle.std.specs.Prelude.{Bool, true, false, not, ◌||◌, [], ◌∷◌, ℕ, ◌/◌, ◌%◌, eqb, Option, Some, None}
 use Rattle.base.specs.Choice.{pick, unless}
 use Rattle.base.specs.Sizes.{protection_group_size}
 use Rattle.moves.specs.Classes.{class_of, class_number}
@@ -17,8 +17,6 @@ use Rattle.states.specs.declared.State.TheVariants.{Idle, Ready, Ident, Stby, Tr
 use Rattle.status.specs.ErrorBits.{error_bit}
 use Rattle.status.specs.Status.{no_errors, with_bit}
 use Rattle.status.specs.declared.Errors.{Errors}
-use Rattle.status.specs.declared.Fault.{Fault}
-use Rattle.status.specs.declared.Fault.TheVariants.{None, Bit}
 use Rattle.tags.specs.Tagging.{no_tags, any_of, is_complete, tag_failed, start_tagged, end_tagged}
 use Rattle.tags.specs.declared.Kind.TheVariants.{Sectors, Groups}
 use Rattle.tags.specs.declared.Tagging.{Tagging}
@@ -28,6 +26,7 @@ use Rattle.command.specs.declared.Acted.{Acted}
 use Rattle.command.specs.declared.Change.{Change}
 use Rattle.command.specs.declared.Change.TheVariants.{Nothing, Protect, Erase}
 use Rattle.command.specs.declared.Met.{Met}
+use Rattle.status.specs.declared.ErrorBit.{ErrorBit}
 
 -- "Any other taken command but CMD0 and CMD13 drops existing tags and sets bit 13": other than 32, 33, 35, 36 and 38
 abbrev pub drops_tags : ℕ → Bool
@@ -124,10 +123,10 @@ abbrev pub gone_idle : Acted
 gone_idle = record { link = fresh_link; errors = no_errors; change = Nothing }
 
 -- after checks 5 and 6. With an error: "the bit, no move"; without: the command is obeyed
-unfoldable pub after_checks : Link → ℕ → ℕ → Column → Tags → Fault → Acted
+unfoldable pub after_checks : Link → ℕ → ℕ → Column → Tags → Option ErrorBit → Acted
 after_checks link index argument column tags None =
     record { link = obeyed link index argument column tags; errors = reset_told link index; change = change_of index argument }
-after_checks link index argument column tags (Bit bit) =
+after_checks link index argument column tags (Some bit) =
     record { link = with_tags link tags; errors = with_bit (reset_told link index) bit; change = Nothing }
 
 -- what a taken command does at a card, which the table leads to a column. `errors` are "pending bits and those its command sets at once", of

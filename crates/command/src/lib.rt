@@ -3,7 +3,7 @@
 // does to a card stands in obey.rt, whatever the mode; which commands are taken, what they answer
 // and which error bits they clear, as MMC mode has it, stands here. No call has a `requires`.
 //
-// Offers: `Met`, `Change`, `Acted`, `act`; a command in its two parts, `Decided`, `decide`,
+// Offers: `Met`, `met_by`, `Change`, `Acted`, `act`; a command in two steps, `Decided`, `decide`,
 // `leaves_alone`, and `Commanded`, `follow`; how MMC mode answers, `Response`, `response_of`, `respond`,
 // `left`; `damaged`.
 #![tactic(auto)]
@@ -13,13 +13,14 @@ mod obey;
 
 ghost use Rattle.std.specs.Prelude.{◌≡◌};
 ghost use Rattle.command.specs.Answers.{response_of, register_sent, sent_of, left_of, answered, silent};
-ghost use Rattle.command.specs.Command.{received_of, damaged_link, taken_of, moved_by, decided_of, leaves_alone};
+ghost use Rattle.command.specs.Command.{met_by, received_of, damaged_link, taken_of, moved_by, decided_of, leaves_alone};
 
-use card_record::{Link, Sent};
+use card_record::{Card, Link, Sent};
 use moves::{Move, Received, Row};
 pub use obey::act;
-use states::Column;
+use states::{Column, State};
 use status::{ErrorBit, Errors};
+use wire::Command;
 
 // What a command meets at a card beside the link: whether the card would win the line in CMD2, the
 // lock flag, the size in protection groups, and the OCR.
@@ -73,30 +74,22 @@ pub enum Response {
     R3,
 }
 
+#[tactic(auto, unfolding(crate::specs::Answers::response_of))]
 pub fn response_of(row: Row) -> Response
     ensures answer { result ≡ response_of row }
 {
     match row {
-        Row::GoIdleState => Response::Nothing,
-        Row::OpCondAsked => Response::R3,
-        Row::OpCondShared => Response::R3,
-        Row::OpCondApart => Response::Nothing,
-        Row::AllSendCidWon => Response::R2,
-        Row::AllSendCidLost => Response::Nothing,
-        Row::SetRelativeAddr => Response::R1,
-        Row::SetDsr => Response::Nothing,
-        Row::SelectCard => Response::R1,
-        Row::DeselectCard => Response::Nothing,
-        Row::SendRegister => Response::R2,
-        Row::StopTransmission => Response::R1,
-        Row::SendStatus => Response::R1,
-        Row::GoInactiveState => Response::Nothing,
-        Row::SetOrTag => Response::R1,
-        Row::Read => Response::R1,
-        Row::Write => Response::R1,
-        Row::Program => Response::R1,
-        Row::OtherAddress => Response::Nothing,
-        Row::Unsupported => Response::Nothing,
+        Row::OpCondAsked | Row::OpCondShared => Response::R3,
+        Row::AllSendCidWon | Row::SendRegister => Response::R2,
+        Row::SetRelativeAddr
+        | Row::SelectCard
+        | Row::StopTransmission
+        | Row::SendStatus
+        | Row::SetOrTag
+        | Row::Read
+        | Row::Write
+        | Row::Program => Response::R1,
+        _ => Response::Nothing,
     }
 }
 
@@ -104,10 +97,7 @@ pub fn response_of(row: Row) -> Response
 fn register(index: u8) -> Sent
     ensures { result ≡ register_sent index }
 {
-    if index == 9 {
-        return Sent::Csd;
-    }
-    Sent::Cid
+    if index == 9 { Sent::Csd } else { Sent::Cid }
 }
 
 pub fn respond(response: Response, index: u8, status: u32) -> Sent
@@ -126,10 +116,8 @@ pub fn left(response: Response, errors: Errors) -> Errors
     ensures answer { result ≡ left_of response errors }
 {
     match response {
-        Response::Nothing => status::clear_command_bits(errors),
         Response::R1 => status::none(),
-        Response::R2 => status::clear_command_bits(errors),
-        Response::R3 => status::clear_command_bits(errors),
+        _ => status::clear_command_bits(errors),
     }
 }
 
@@ -145,12 +133,11 @@ fn silent(link: Link) -> Commanded
 }
 
 // Check 2: what a frame with a wrong CRC7 leaves at a card.
+#[tactic(auto, unfolding(crate::specs::Command::damaged_link))]
 pub fn damaged(link: Link) -> Link
     ensures answer { result ≡ damaged_link link }
 {
-    let state = link.state;
-    let on = states::column_of(state);
-    if states::number(on) == 9 {
+    if matches!(link.state, State::Ina) {
         return link;
     }
     Link {
@@ -160,43 +147,52 @@ pub fn damaged(link: Link) -> Link
 }
 
 // What a taken command answers, from the state in which it came, and what it leaves.
+#[tactic(auto, unfolding(crate::specs::Answers::answered))]
 fn answer(acted: Acted, response: Response, index: u8, locked: bool, on: Column) -> Commanded
     ensures { result ≡ answered acted response index locked on }
 {
     let errors = acted.errors;
     let link = acted.link;
-    let change = acted.change;
-    let status = status::word(errors, locked, on);
     Commanded {
         link: Link {
             errors: left(response, errors),
             ..link
         },
-        sent: respond(response, index, status),
-        change,
+        sent: respond(response, index, status::word(errors, locked, on)),
+        change: acted.change,
     }
 }
 
 // A command that has a legal move to a column.
-fn take(link: Link, met: Met, asked: Received, row: Row, column: Column) -> Commanded
-    ensures { result ≡ taken_of link met asked row column }
+#[tactic(auto, unfolding(crate::specs::Command::taken_of))]
+fn take(link: Link, met: Met, command: Command, row: Row, column: Column) -> Commanded
+    ensures { result ≡ taken_of link met (received_of link met command.index command.argument) row column }
 {
-    let index = asked.index;
-    let locked = met.locked;
-    let state = link.state;
-    let on = states::column_of(state);
+    let on = states::column_of(link.state);
     let response = response_of(row);
-    let acted = obey::act(link, met, index, asked.argument, column);
-    answer(acted, response, index, locked, on)
+    let acted = obey::act(link, met, command, column);
+    answer(acted, response, command.index, met.locked, on)
+}
+
+// What a command meets at a card, which would win the line in CMD2, or would not.
+pub fn met_by(card: Card, wins: bool) -> Met
+    ensures answer { result ≡ met_by card wins }
+{
+    Met {
+        ocr: card.registers.ocr,
+        groups: card.registers.groups,
+        locked: card.lock.locked,
+        wins,
+    }
 }
 
 // A command as it meets a card.
-fn received(link: Link, met: Met, index: u8, argument: u32) -> Received
-    ensures { result ≡ received_of link met index argument }
+fn received(link: Link, met: Met, command: Command) -> Received
+    ensures { result ≡ received_of link met command.index command.argument }
 {
     Received {
-        index,
-        argument,
+        index: command.index,
+        argument: command.argument,
         address: link.address,
         ocr: met.ocr,
         wins: met.wins,
@@ -205,13 +201,11 @@ fn received(link: Link, met: Met, index: u8, argument: u32) -> Received
 
 // What checks 1, 3 and 4 find, before anything is done. A card that this leaves alone need not be
 // taken out of its place.
-pub fn decide(link: Link, met: Met, index: u8, argument: u32) -> Decided
-    ensures answer { result ≡ decided_of link met index argument }
+pub fn decide(link: Link, met: Met, command: Command) -> Decided
+    ensures answer { result ≡ decided_of link met command.index command.argument }
 {
-    let asked = received(link, met, index, argument);
-    let row = moves::row_of(asked);
-    let state = link.state;
-    let next = moves::next(row, states::column_of(state));
+    let row = moves::row_of(received(link, met, command));
+    let next = moves::next(row, states::column_of(link.state));
     Decided { row, next }
 }
 
@@ -219,29 +213,19 @@ pub fn decide(link: Link, met: Met, index: u8, argument: u32) -> Decided
 pub fn leaves_alone(decided: Decided) -> bool
     ensures answer { result ≡ leaves_alone decided }
 {
-    let next = decided.next;
-    match next {
-        Move::Ignored => true,
-        Move::Silent => true,
-        Move::Illegal => false,
-        Move::To(_) => false,
-    }
+    matches!(decided.next, Move::Ignored | Move::Silent)
 }
 
 // What was decided, done.
-pub fn follow(link: Link, met: Met, index: u8, argument: u32, decided: Decided) -> Commanded
-    ensures answer { result ≡ moved_by link met (received_of link met index argument) decided.row decided.next }
+pub fn follow(link: Link, met: Met, command: Command, decided: Decided) -> Commanded
+    ensures answer { result ≡ moved_by link met (received_of link met command.index command.argument) decided.row decided.next }
 {
-    let asked = received(link, met, index, argument);
-    let row = decided.row;
-    let next = decided.next;
-    match next {
-        Move::Ignored => silent(link),
-        Move::Silent => silent(link),
+    match decided.next {
+        Move::Ignored | Move::Silent => silent(link),
         Move::Illegal => silent(Link {
             errors: status::set(link.errors, ErrorBit::IllegalCommand),
             ..link
         }),
-        Move::To(column) => take(link, met, asked, row, column),
+        Move::To(column) => take(link, met, command, decided.row, column),
     }
 }

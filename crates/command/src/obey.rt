@@ -11,46 +11,31 @@ use base::PROTECTION_GROUP;
 use card_record::Link;
 use moves::Class;
 use states::{Column, Incoming, Outgoing, State};
-use status::{ErrorBit, Errors, Fault};
+use status::{ErrorBit, Errors};
 use tags::{Kind, Tagging, Tags};
+use wire::Command;
 
 // Whether a command other than the erase commands drops tags.
 fn drops_tags(index: u8) -> bool
     ensures { result ≡ drops_tags index }
 {
-    match index {
-        0 => false,
-        13 => false,
-        32 => false,
-        33 => false,
-        35 => false,
-        36 => false,
-        38 => false,
-        _ => true,
-    }
+    !matches!(index, 0 | 13 | 32 | 33 | 35 | 36 | 38)
 }
 
 // Check 5: whether a card takes a command in spite of its lock. Of the block reads, CMD16 to 18, the
 // first alone does: it sets the block length, and reads nothing. It is asked for by `<=`, since with
 // `==` the compiler copies what a command does once more for CMD16, 125 bytes.
+#[tactic(auto, unfolding(moves::specs::Classes::class_of))]
 fn passes_lock(locked: bool, index: u8) -> bool
     ensures { result ≡ passes_lock locked index }
 {
-    if !locked {
+    if !locked || index == 42 {
         return true;
     }
-    if index == 42 {
-        return true;
-    }
-    let class = moves::class_of(index);
-    match class {
+    match moves::class_of(index) {
         Class::Basic => true,
         Class::BlockRead => index <= 16,
-        Class::BlockWrite => false,
-        Class::WriteProtection => false,
-        Class::Erase => false,
-        Class::Lock => false,
-        Class::Unsupported => false,
+        _ => false,
     }
 }
 
@@ -59,26 +44,25 @@ fn erase_tagging(tags: Tags) -> Tagging
     ensures { result ≡ erase_tagging tags }
 {
     if !tags::complete(tags) {
-        return Tagging {
-            tags: tags::no_tags(),
-            error: Fault::Bit(ErrorBit::EraseSeqError),
-        };
+        return tags::failed(ErrorBit::EraseSeqError);
     }
     Tagging {
         tags: tags::no_tags(),
-        error: Fault::None,
+        error: None,
     }
 }
 
 // Check 6 with the tags that a command leaves.
-fn tagging(link: Link, size: u32, index: u8, argument: u32) -> Tagging
-    ensures { result ≡ tagging_of link size index argument }
+#[tactic(auto, unfolding(crate::specs::Obey::tagging_of))]
+fn tagging(link: Link, size: u32, command: Command) -> Tagging
+    ensures { result ≡ tagging_of link size command.index command.argument }
 {
     let held = link.tags;
-    match index {
+    let argument = command.argument;
+    match command.index {
         13 => Tagging {
             tags: held,
-            error: Fault::None,
+            error: None,
         },
         32 => tags::tag_start(Kind::Sectors, argument, size),
         33 => tags::tag_end(held, Kind::Sectors, argument, size),
@@ -87,35 +71,32 @@ fn tagging(link: Link, size: u32, index: u8, argument: u32) -> Tagging
         38 => erase_tagging(held),
         _ => Tagging {
             tags: tags::no_tags(),
-            error: argument_fault(index, argument, card_record::read_length(link.length), size),
+            error: argument_fault(command, card_record::read_length(link.length), size),
         },
     }
 }
 
 // Checks 5 and 6, with the tags that the command leaves.
-fn judge(link: Link, groups: u16, locked: bool, index: u8, argument: u32) -> Tagging
-    ensures { result ≡ judged_of link groups locked index argument }
+#[tactic(auto, unfolding(crate::specs::Obey::judged_of))]
+fn judge(link: Link, groups: u16, locked: bool, command: Command) -> Tagging
+    ensures { result ≡ judged_of link groups locked command.index command.argument }
 {
-    if !passes_lock(locked, index) {
-        return Tagging {
-            tags: tags::no_tags(),
-            error: Fault::Bit(ErrorBit::LockUnlockFailed),
-        };
+    if !passes_lock(locked, command.index) {
+        return tags::failed(ErrorBit::LockUnlockFailed);
     }
-    tagging(link, card_record::size(groups), index, argument)
+    tagging(link, card_record::size(groups), command)
 }
 
 // The error bits with 13 where the command drops tags.
+#[tactic(auto, unfolding(crate::specs::Obey::reset_told))]
 fn reset_told(link: Link, index: u8) -> Errors
     ensures { result ≡ reset_told link index }
 {
-    if !drops_tags(index) {
-        return link.errors;
+    if drops_tags(index) && tags::any(link.tags) {
+        status::set(link.errors, ErrorBit::EraseReset)
+    } else {
+        link.errors
     }
-    if !tags::any(link.tags) {
-        return link.errors;
-    }
-    status::set(link.errors, ErrorBit::EraseReset)
 }
 
 // The state of a column: in data and rcv it is the one that carries the work.
@@ -128,8 +109,7 @@ fn state_at(column: Column, work: State) -> State
         Column::Ident => State::Ident,
         Column::Stby => State::Stby,
         Column::Tran => State::Tran,
-        Column::Data => work,
-        Column::Rcv => work,
+        Column::Data | Column::Rcv => work,
         Column::Prg => State::Prg,
         Column::Dis => State::Dis,
         Column::Ina => State::Ina,
@@ -137,10 +117,12 @@ fn state_at(column: Column, work: State) -> State
 }
 
 // The work that a command begins; any other goes on with what there is.
-fn awaited_by(index: u8, argument: u32, state: State) -> State
-    ensures { result ≡ awaited_by index argument state }
+#[tactic(auto, unfolding(crate::specs::Obey::awaited_by))]
+fn awaited_by(command: Command, state: State) -> State
+    ensures { result ≡ awaited_by command.index command.argument state }
 {
-    match index {
+    let argument = command.argument;
+    match command.index {
         17 => State::Data(Outgoing::One(argument)),
         18 => State::Data(Outgoing::Many(argument)),
         24 => State::Rcv(Incoming::One(argument)),
@@ -153,43 +135,45 @@ fn awaited_by(index: u8, argument: u32, state: State) -> State
     }
 }
 
-fn address_after(index: u8, argument: u32, address: u16) -> u16
-    ensures { result ≡ address_after index argument address }
+fn address_after(command: Command, address: u16) -> u16
+    ensures { result ≡ address_after command.index command.argument address }
 {
-    if index == 3 {
-        return (argument / 65536) as u16;
+    if command.index == 3 {
+        return (command.argument / 65536) as u16;
     }
     address
 }
 
-fn length_after(index: u8, argument: u32, length: u16) -> u16
-    ensures { result ≡ length_after index argument length }
+fn length_after(command: Command, length: u16) -> u16
+    ensures { result ≡ length_after command.index command.argument length }
 {
-    if index == 16 {
-        return (argument % 65536) as u16;
+    if command.index == 16 {
+        return (command.argument % 65536) as u16;
     }
     length
 }
 
 // A command without a fault obeyed: it leads to a column, and leaves these tags.
-fn obey(link: Link, index: u8, argument: u32, column: Column, tags: Tags) -> Link
-    ensures { result ≡ obeyed link index argument column tags }
+#[tactic(auto, unfolding(crate::specs::Obey::obeyed))]
+fn obey(link: Link, command: Command, column: Column, tags: Tags) -> Link
+    ensures { result ≡ obeyed link command.index command.argument column tags }
 {
-    let state = link.state;
     Link {
-        state: state_at(column, awaited_by(index, argument, state)),
-        address: address_after(index, argument, link.address),
-        length: length_after(index, argument, link.length),
+        state: state_at(column, awaited_by(command, link.state)),
+        address: address_after(command, link.address),
+        length: length_after(command, link.length),
         tags,
         ..link
     }
 }
 
 // What a command without a fault changes in what is lent.
-fn change_of(index: u8, argument: u32) -> Change
-    ensures { result ≡ change_of index argument }
+#[tactic(auto, unfolding(crate::specs::Obey::change_of))]
+fn change_of(command: Command) -> Change
+    ensures { result ≡ change_of command.index command.argument }
 {
-    match index {
+    let argument = command.argument;
+    match command.index {
         28 => Change::Protect {
             group: argument / PROTECTION_GROUP,
             on: true,
@@ -205,27 +189,27 @@ fn change_of(index: u8, argument: u32) -> Change
 
 // What a taken command does, which the table leads to a column: CMD0 resets; with a fault the
 // command only tells its bit, else it is obeyed.
-pub fn act(link: Link, met: Met, index: u8, argument: u32, column: Column) -> Acted
-    ensures answer { result ≡ acted_of link met index argument column }
+#[tactic(auto, unfolding(crate::specs::Obey::acted_of, crate::specs::Obey::after_checks))]
+pub fn act(link: Link, met: Met, command: Command, column: Column) -> Acted
+    ensures answer { result ≡ acted_of link met command.index command.argument column }
 {
-    if index == 0 {
+    if command.index == 0 {
         return Acted {
             link: card_record::fresh(),
             errors: status::none(),
             change: Change::Nothing,
         };
     }
-    let judged = judge(link, met.groups, met.locked, index, argument);
-    let errors = reset_told(link, index);
+    let judged = judge(link, met.groups, met.locked, command);
+    let errors = reset_told(link, command.index);
     let tags = judged.tags;
-    let fault = judged.error;
-    match fault {
-        Fault::None => Acted {
-            link: obey(link, index, argument, column, tags),
+    match judged.error {
+        None => Acted {
+            link: obey(link, command, column, tags),
             errors,
-            change: change_of(index, argument),
+            change: change_of(command),
         },
-        Fault::Bit(bit) => Acted {
+        Some(bit) => Acted {
             link: Link { tags, ..link },
             errors: status::set(errors, bit),
             change: Change::Nothing,

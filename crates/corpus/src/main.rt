@@ -3,9 +3,10 @@
 // what the model wrote for all of them, and `tests/corpus` makes it again.
 #![tactic(auto)]
 
-mod bus_script;
-mod card_script;
-
+use busline_player::BusPlayer;
+use cardline_player::CardPlayer;
+use playing::Player;
+use program_io::show;
 use std::env::FillError;
 use std::rt::{Env, Files};
 
@@ -18,29 +19,49 @@ fn main(rt: HostRuntime) {
     }
 }
 
-// Whether there is an argument: the list of them ends before the first that there is not.
+// Whether there is an argument: the list of them ends before the first that there is not. One at a
+// time, since std's list of them takes memory that a program may not get.
 fn is_given(rt: &impl Env, i: usize) -> bool {
-    let mut name = [0u8; 64];
-    match rt.arg(i, &mut name) {
-        Ok(_) => true,
-        Err(FillError::NotPresent) => false,
-        Err(FillError::TooLong) => true,
-    }
+    !matches!(rt.arg(i, &mut [0u8; 64]), Err(FillError::NotPresent))
 }
 
 // The script that an argument names. `program_io` reads 65,536 characters, so no script is longer.
 fn script(rt: &(impl Env + Files + Print + Eprint), i: usize) {
     let mut bytes = [0u8; 32768];
-    play(rt, i, &mut bytes);
+    let n = program_io::named(rt, i, &mut bytes).unwrap_or(0);
+    if for_bus(rt, i) {
+        play(
+            rt,
+            &mut BusPlayer::fresh(),
+            &mut bytes,
+            n,
+            &mut [0u8; 65536],
+        );
+    } else {
+        let mut memory = [0u8; 528384];
+        let mut map = [0u8; 256];
+        let mut player = CardPlayer::fresh(&mut memory, &mut map);
+        play(rt, &mut player, &mut bytes, n, &mut [0u8; 131136]);
+    }
 }
 
-fn play(rt: &(impl Env + Files + Print + Eprint), i: usize, bytes: &mut [u8]) {
-    let n = program_io::named(rt, i, bytes);
-    if for_bus(rt, i) {
-        bus_script::play(rt, bytes, n);
-    } else {
-        card_script::play(rt, bytes, n);
-    }
+// The first bytes of a buffer: no more come behind them. A text that could not be written is told of,
+// and the script goes on.
+fn play(
+    rt: &(impl Print + Eprint),
+    player: &mut impl Player,
+    buffer: &mut [u8],
+    script: usize,
+    out: &mut [u8],
+) {
+    let mut whole = Some(script);
+    let _ = program_io::play(
+        player,
+        buffer,
+        out,
+        |_, _| Ok(whole.take()),
+        |out, n| Ok(show(rt, out, n).unwrap_or_else(|unwritten| unwritten.bytes)),
+    );
 }
 
 // Whether an argument names a script for a bus: one of the folder that begins with `b`.

@@ -2,6 +2,7 @@ pub mod Additive
 pub mod Bits
 pub mod Flips
 pub mod Fold
+pub mod Left
 pub mod Linear
 pub mod Remainder
 pub mod Rule

@@ -11,7 +11,9 @@ use states::{Incoming, Outgoing, State};
 use status::Errors;
 use tags::{Kind, Range, Tags};
 
+// Numbers for kinds, here and below, since C holds a record so (mmc.h; `state_of`, `tags_by`).
 // The states that carry no work, up to Transfer: whatever place stands beside the number.
+#[tactic(auto, unfolding(crate::specs::Record::state_of))]
 fn at_rest(number: u32) -> State
     requires { number < 5 }
     ensures { (at : ℕ) → result ≡ state_of number at }
@@ -26,6 +28,7 @@ fn at_rest(number: u32) -> State
 }
 
 // The states behind Transfer.
+#[tactic(auto, unfolding(crate::specs::Record::state_of))]
 fn at_work(number: u32, at: u32) -> State
     requires { 5 ≤ number }
     ensures { result ≡ state_of number at }
@@ -55,6 +58,7 @@ fn state_of(number: u32, at: u32) -> State
     at_work(number, at)
 }
 
+#[tactic(auto, unfolding(crate::specs::Record::tags_by))]
 fn tags_by(number: u32, first: u32, last: u32) -> Tags
     ensures { result ≡ tags_by number first last }
 {
@@ -82,6 +86,7 @@ pub fn locked_of(numbers: [u32; 13]) -> bool
 }
 
 // The link of the first eight numbers.
+#[tactic(auto, unfolding(crate::specs::Record::link_of))]
 pub fn link_of(numbers: [u32; 13]) -> Link
     ensures answer { result ≡ link_of numbers }
 {
@@ -97,6 +102,7 @@ pub fn link_of(numbers: [u32; 13]) -> Link
 // The mode of the number behind the link's: bit 0 says SPI, bit 8 that CRCs are checked there. The
 // bits stand where the record's two flags stand in memory, so that the number is taken in and told
 // by one instruction.
+#[tactic(auto, unfolding(crate::specs::Record::mode_of))]
 pub fn mode_of(numbers: [u32; 13]) -> Mode
     ensures answer { result ≡ mode_of numbers }
 {
@@ -107,6 +113,7 @@ pub fn mode_of(numbers: [u32; 13]) -> Mode
 }
 
 // The registers of the last two, with the bytes of the CID and the CSD.
+#[tactic(auto, unfolding(crate::specs::Record::registers_of))]
 pub fn registers_of(numbers: [u32; 13], cid: [u8; 16], csd: [u8; 16]) -> Registers
     ensures answer { result ≡ registers_of numbers cid csd }
 {
@@ -118,6 +125,7 @@ pub fn registers_of(numbers: [u32; 13], cid: [u8; 16], csd: [u8; 16]) -> Registe
     }
 }
 
+#[tactic(auto, unfolding(crate::specs::Record::card_of, crate::specs::Record::lock_of))]
 pub fn card_of(numbers: [u32; 13], cid: [u8; 16], csd: [u8; 16], password: [u8; 16]) -> Card
     ensures answer { result ≡ card_of numbers cid csd password }
 {

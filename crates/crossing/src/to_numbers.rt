@@ -2,7 +2,6 @@
 ghost use Rattle.std.specs.Prelude.{◌++◌, ◌≡◌, ◌≤◌, length, take, drop, set};
 ghost use Rattle.card_record.specs.Record.{with_errors};
 ghost use Rattle.crossing.specs.Record.{outgoing_number, incoming_number, state_number, outgoing_at, incoming_at, place_carried, start_number, full_number, tags_number, last_of, mode_number, link_of, link_numbers, mode_of, mode_numbers, lock_of, lock_numbers, register_numbers, card_of, numbers_of};
-ghost use Rattle.status.specs.Status.{flag};
 ghost use Rattle.tags.specs.Tagging.{first_of};
 
 use card_record::{Card, Link, Mode, Registers};
@@ -11,6 +10,7 @@ use states::{Incoming, Outgoing, State};
 use status::Errors;
 use tags::{Kind, Range};
 
+// Numbers for kinds, here and below, since C holds a record so (mmc.h; `state_number`, `tags_number`).
 fn outgoing_number(outgoing: Outgoing) -> u32
     ensures { result ≡ outgoing_number outgoing }
 {
@@ -54,11 +54,8 @@ fn outgoing_at(outgoing: Outgoing) -> u32
     ensures { result ≡ outgoing_at outgoing }
 {
     match outgoing {
-        Outgoing::One(at) => at,
-        Outgoing::Many(at) => at,
-        Outgoing::Protection(group) => group,
-        Outgoing::Csd => 0,
-        Outgoing::Cid => 0,
+        Outgoing::One(at) | Outgoing::Many(at) | Outgoing::Protection(at) => at,
+        Outgoing::Csd | Outgoing::Cid => 0,
     }
 }
 
@@ -66,8 +63,7 @@ fn incoming_at(incoming: Incoming) -> u32
     ensures { result ≡ incoming_at incoming }
 {
     match incoming {
-        Incoming::One(at) => at,
-        Incoming::Many(at) => at,
+        Incoming::One(at) | Incoming::Many(at) => at,
         Incoming::LockRequest => 0,
     }
 }
@@ -77,16 +73,9 @@ fn place_carried(state: State) -> u32
     ensures { result ≡ place_carried state }
 {
     match state {
-        State::Idle => 0,
-        State::Ready => 0,
-        State::Ident => 0,
-        State::Stby => 0,
-        State::Tran => 0,
         State::Data(outgoing) => outgoing_at(outgoing),
         State::Rcv(incoming) => incoming_at(incoming),
-        State::Prg => 0,
-        State::Dis => 0,
-        State::Ina => 0,
+        _ => 0,
     }
 }
 
@@ -123,8 +112,7 @@ fn first_of(range: Range) -> u32
 {
     match range {
         Range::Nothing => 0,
-        Range::Start(_, first) => first,
-        Range::Full(_, first, _) => first,
+        Range::Start(_, first) | Range::Full(_, first, _) => first,
     }
 }
 
@@ -132,74 +120,60 @@ fn last_of(range: Range) -> u32
     ensures { result ≡ last_of range }
 {
     match range {
-        Range::Nothing => 0,
-        Range::Start(_, _) => 0,
         Range::Full(_, _, last) => last,
+        _ => 0,
     }
-}
-
-fn flag(is: bool) -> u32
-    ensures { result ≡ flag is }
-{
-    if is { 1 } else { 0 }
 }
 
 fn mode_number(mode: Mode) -> u32
     ensures { result ≡ mode_number mode }
 {
-    flag(mode.spi) + 256 * flag(mode.checks)
+    u32::from(mode.spi) + 256 * u32::from(mode.checks)
 }
 
 // The link's numbers at the front of others, and those behind as they were.
-fn put_link(link: Link, numbers: &mut [u32])
-    requires { 8 ≤ length numbers.old }
+fn put_link(link: Link, numbers: &mut [u32; 13])
     ensures { numbers.new ≡ link_numbers link ++ drop 8 numbers.old }
 {
-    let state = link.state;
-    let errors = link.errors;
-    let tags = link.tags;
-    let range = tags.range;
-    numbers[0] = state_number(state);
-    numbers[1] = place_carried(state);
-    numbers[2] = link.address as u32;
-    numbers[3] = link.length as u32;
-    numbers[4] = errors.bits;
+    let range = link.tags.range;
+    numbers[0] = state_number(link.state);
+    numbers[1] = place_carried(link.state);
+    numbers[2] = u32::from(link.address);
+    numbers[3] = u32::from(link.length);
+    numbers[4] = link.errors.bits;
     numbers[5] = tags_number(range);
     numbers[6] = first_of(range);
     numbers[7] = last_of(range);
 }
 
 // The number of the error bits, among the link's.
-fn put_errors(errors: Errors, numbers: &mut [u32])
-    requires { 5 ≤ length numbers.old }
+fn put_errors(errors: Errors, numbers: &mut [u32; 13])
     ensures { numbers.new ≡ set numbers.old 4 errors.bits }
 {
     numbers[4] = errors.bits;
 }
 
 // The mode's number behind the link's.
-fn put_mode(mode: Mode, numbers: &mut [u32])
-    requires { 9 ≤ length numbers.old }
+fn put_mode(mode: Mode, numbers: &mut [u32; 13])
     ensures { numbers.new ≡ take 8 numbers.old ++ mode_numbers mode ++ drop 9 numbers.old }
 {
     numbers[8] = mode_number(mode);
 }
 
 // The lock's numbers behind the mode's.
-fn put_lock(lock: Lock, numbers: &mut [u32])
-    requires { 11 ≤ length numbers.old }
+fn put_lock(lock: Lock, numbers: &mut [u32; 13])
     ensures { numbers.new ≡ take 9 numbers.old ++ lock_numbers lock ++ drop 11 numbers.old }
 {
-    numbers[9] = flag(lock.locked);
-    numbers[10] = lock.length as u32;
+    numbers[9] = u32::from(lock.locked);
+    numbers[10] = u32::from(lock.length);
 }
 
 // The registers' numbers behind the lock's.
-fn put_registers(registers: Registers, numbers: &mut [u32])
-    requires { 13 ≤ length numbers.old }
+#[tactic(auto, unfolding(crate::specs::Record::register_numbers))]
+fn put_registers(registers: Registers, numbers: &mut [u32; 13])
     ensures { numbers.new ≡ take 11 numbers.old ++ register_numbers registers ++ drop 13 numbers.old }
 {
-    numbers[11] = registers.groups as u32;
+    numbers[11] = u32::from(registers.groups);
     numbers[12] = registers.ocr;
 }
 
@@ -236,12 +210,8 @@ pub fn tell_card(card: Card, numbers: &mut [u32; 13])
     ensures numbers { numbers.new ≡ numbers_of card }
     ensures crossing { card_of numbers.new card.registers.cid card.registers.csd card.lock.password ≡ card }
 {
-    let registers = card.registers;
-    let lock = card.lock;
-    let link = card.link;
-    let mode = card.mode;
-    put_link(link, numbers);
-    put_mode(mode, numbers);
-    put_lock(lock, numbers);
-    put_registers(registers, numbers);
+    put_link(card.link, numbers);
+    put_mode(card.mode, numbers);
+    put_lock(card.lock, numbers);
+    put_registers(card.registers, numbers);
 }

@@ -45,8 +45,6 @@ use Rattle.status.specs.ErrorBits.{error_bit}
 use Rattle.status.specs.Status.{with_bit}
 use Rattle.status.specs.declared.ErrorBit.{ErrorBit}
 use Rattle.status.specs.declared.Errors.{Errors}
-use Rattle.status.specs.declared.Fault.{Fault}
-use Rattle.status.specs.declared.Fault.TheVariants.{None, Bit}
 use Rattle.store.specs.Lent.{Lent}
 use Rattle.tags.specs.Tagging.{no_tags}
 use Rattle.tags.specs.declared.Tagging.{Tagging}
@@ -56,6 +54,7 @@ use Rattle.demands.specs.InSpi.{AnswersIllegal, heard_low, TakenInSpi, JudgedInS
 use Rattle.demands.specs.Refused.{inactive, noted, cleared}
 use Rattle.demands.specs.Silenced.{Reads, Unlent}
 use Rattle.demands.proofs.Frames.{heard_in_spi, unlent}
+use Rattle.std.specs.Prelude.{Option, Some, None}
 
 class_0 : (locked : Bool) → not locked || true ≡ true
 class_0 true = refl
@@ -107,7 +106,7 @@ module _ (card : Card) (here : card.mode.spi ≡ true) (wins : Bool) (index argu
 
   -- ---- checks 5 and 6
   module _ (column : Column) (bit : ErrorBit) (taken : TakenInSpi card wins index argument column)
-      (faults : fault card.link (met_by card wins) index argument ≡ Bit bit) where
+      (faults : fault card.link (met_by card wins) index argument ≡ Some bit) where
     abbrev tagging : Tagging
     tagging = judged_of card.link card.registers.groups card.lock.locked index argument
 
@@ -142,7 +141,7 @@ module _ (card : Card) (here : card.mode.spi ≡ true) (wins : Bool) (index argu
         answered_in card.mode (record { link = with_tags card.link tags; errors = with_bit (reset_told card.link index) bit; change = Unchanged }) R1 card.lock.locked
 
     -- what it does, by what checks 5 and 6 found
-    abbrev checked : Fault → Acted
+    abbrev checked : Option ErrorBit → Acted
     checked error = after_checks card.link index argument column tagging.tags error
 
     none_of : (eqb index 0 ≡ false) × (eqb index 13 ≡ false) × (eqb index 58 ≡ false) × (eqb index 59 ≡ false)
@@ -164,7 +163,7 @@ module _ (card : Card) (here : card.mode.spi ≡ true) (wins : Bool) (index argu
         ∙ ap (λ (t : Bool). answer (pick t (record { spi = card.mode.spi; checks = eqb (argument % 2) 1 }) card.mode) (checked tagging.error) (response_of index)) crc
         ∙ ap (λ (t : Bool). answer card.mode (checked tagging.error) (pick t R2 (pick (eqb index 58) R3 R1))) status
         ∙ ap (λ (t : Bool). answer card.mode (checked tagging.error) (pick t R3 R1)) ocr
-        ∙ ap (λ (f : Fault). answer card.mode (checked f) R1) faults
+        ∙ ap (λ (f : Option ErrorBit). answer card.mode (checked f) R1) faults
         ∙ ap stopped (judged_drops card.link card.registers.groups card.lock.locked index argument bit faults)
 
     pub faulted_in_spi : FaultedInSpi card wins index argument bit

@@ -18,8 +18,6 @@ use Rattle.card_blocks.proofs.Outcomes.{InOutcome, unreads, refuses, stores, gra
 use Rattle.card_blocks.specs.BlockIn.{awaited_length, block_refused, block_good, write_judged, lock_judged, request_judged, carried_out, checked_judged, wrong_length, awaited_judged, unread, state_judged, block_judged}
 use Rattle.card_blocks.specs.Framing.{beside, started, unstarted, response_to}
 use Rattle.card_blocks.specs.declared.BlockJudged.{BlockJudged}
-use Rattle.card_blocks.specs.declared.Outcome.{Outcome}
-use Rattle.card_blocks.specs.declared.Outcome.TheVariants.{Done, Wrote, Refused}
 use Rattle.card_record.specs.Record.{size_of, csd_protects}
 use Rattle.card_record.specs.declared.Card.{Card}
 use Rattle.card_record.specs.declared.Sent.TheVariants.{Nothing, DataResponse}
@@ -31,23 +29,23 @@ use Rattle.moves.proofs.Among.{each}
 use Rattle.states.specs.declared.Incoming.{Incoming}
 use Rattle.states.specs.declared.Incoming.TheVariants.{One, Many, LockRequest}
 use Rattle.states.specs.declared.State.{State}
-use Rattle.status.specs.declared.Fault.TheVariants.{None}
 use Rattle.store.specs.Lent.{Lent, Seen, seen, once_lent}
 use Rattle.store.specs.Map.{protected_in}
-use Rattle.store.specs.declared.Lending.{Lending}
 use Rattle.wire.specs.Blocks.{payload_of, crc_in}
 use Rattle.crc.specs.Crc.{crc16}
 use Rattle.demands.specs.BlocksIn.{Awaited, refuses16, refuses17}
 use Rattle.demands.specs.Refused.{Refuses}
+use Rattle.std.specs.Prelude.{Result, Option, Ok, Err, Some, None}
+use Rattle.base.specs.declared.Refusal.{Refusal}
 
 -- what became of a block, and whether that is this number
-abbrev outcome_of : BlockJudged → Outcome
+abbrev outcome_of : BlockJudged → Result (Option ℕ) Refusal
 outcome_of judged = judged.stepped.reply.outcome
 
-abbrev said_by : Outcome → ℕ
-said_by Done = 0
-said_by (Wrote n) = 0
-said_by (Refused refusal) = number_of refusal
+abbrev said_by : Result (Option ℕ) Refusal → ℕ
+said_by (Ok None) = 0
+said_by (Ok (Some n)) = 0
+said_by (Err refusal) = number_of refusal
 
 abbrev says : ℕ → BlockJudged → Bool
 says n judged = eqb (said_by (outcome_of judged)) n
@@ -106,7 +104,7 @@ module _ (card : Card) (incoming : Incoming) where
   sixteen_said false first rest e = refl
 
   sixteen_given : (long first : Bool) (rest : BlockJudged) → (not long || not first) ≡ true
-      → outcome_of (unless long wrong (unless first wrong rest)) ≡ Refused (by 16)
+      → outcome_of (unless long wrong (unless first wrong rest)) ≡ Err (by 16)
   unfolding block_refused
   sixteen_given true true rest e = never e
   sixteen_given true false rest e = refl
@@ -124,7 +122,7 @@ module _ (card : Card) (incoming : Incoming) where
   seventeen_said n false rest e = e
 
   seventeen_given : (counts : Bool) (rest : BlockJudged) → counts ≡ true
-      → outcome_of (unless (not counts) (block_refused card incoming (by 17) None) rest) ≡ Refused (by 17)
+      → outcome_of (unless (not counts) (block_refused card incoming (by 17) None) rest) ≡ Err (by 17)
   unfolding block_refused
   seventeen_given true rest e = refl
   seventeen_given false rest e = never e
@@ -159,7 +157,7 @@ module _ (card : Card) (block : List ℕ) (lent : Lent) (out : List ℕ) (incomi
   judged : block_judged card block (seen lent) ≡ unless long (wrong_length card incoming) (unless first (wrong_length card incoming) checked)
   unfolding block_judged awaited_judged checked_judged
   judged =
-      ap (λ (l : Lending). once_lent l (unread card) (state_judged card card.link.state block (seen lent).map)) on.lent_right
+      ap (λ (l : Result Unit Refusal). once_lent l (unread card) (state_judged card card.link.state block (seen lent).map)) on.lent_right
       ∙ ap (λ (s : State). state_judged card s block (seen lent).map) on.awaiting
       ∙ ap (λ (t : Bool). unless long (wrong_length card incoming) (unless first (wrong_length card incoming) (unless t (block_refused card incoming (by 17) None) carried)))
       (by_three card.mode.spi card.mode.checks (eqb (crc_in inner) (crc16 (payload_of inner))))
@@ -177,7 +175,7 @@ module _ (card : Card) (block : List ℕ) (lent : Lent) (out : List ℕ) (incomi
 
   pub sixteen_exactly : (Refuses card BlockIn block lent out (by 16) → sixteen ≡ true) × (sixteen ≡ true → Refuses card BlockIn block lent out (by 16))
   sixteen_exactly = (
-    λ (e : Refuses card BlockIn block lent out (by 16)). sym said ∙ ap (λ (o : Outcome). eqb (said_by o) 16) e,
+    λ (e : Refuses card BlockIn block lent out (by 16)). sym said ∙ ap (λ (o : Result (Option ℕ) Refusal). eqb (said_by o) 16) e,
     λ (t : sixteen ≡ true). ap outcome_of judged ∙ sixteen_given card incoming long first checked (tested ∙ t),
   )
 
@@ -190,7 +188,7 @@ module _ (card : Card) (block : List ℕ) (lent : Lent) (out : List ℕ) (incomi
       ap (says 17) checks
       ∙ seventeen_said card incoming 17 (refuses17 card.mode block) carried (carried_passed card incoming (payload_of inner) (seen lent).map).1
       ∙ all (refuses17 card.mode block) in (
-        λ (e : Refuses card BlockIn block lent out (by 17)). sym told ∙ ap (λ (o : Outcome). eqb (said_by o) 17) e,
+        λ (e : Refuses card BlockIn block lent out (by 17)). sym told ∙ ap (λ (o : Result (Option ℕ) Refusal). eqb (said_by o) 17) e,
         λ (t : refuses17 card.mode block ≡ true). ap outcome_of checks ∙ seventeen_given card incoming (refuses17 card.mode block) carried t,
       )
 

@@ -48,7 +48,6 @@ use Rattle.states.specs.declared.State.{State}
 use Rattle.states.specs.declared.State.TheVariants.{Idle, Stby, Tran, Rcv, Prg}
 use Rattle.status.specs.ErrorBits.{error_bit}
 use Rattle.status.specs.Status.{no_errors}
-use Rattle.status.specs.declared.Fault.TheVariants.{Bit}
 use Rattle.store.specs.Lent.{lent_of, seen}
 use Rattle.store.specs.Map.{entries_right}
 use Rattle.tags.specs.Tagging.{no_tags}
@@ -57,6 +56,7 @@ use Rattle.demands.specs.Faulted.{fault}
 use Rattle.demands.specs.InSpi.{TakenInSpi}
 use Rattle.demands.specs.Refused.{Refuses}
 use Rattle.demands.specs.Silenced.{Taken, PassedOver, NoLegalMove}
+use Rattle.std.specs.Prelude.{Some}
 
 abbrev linked : State → Link
 linked state = record { state = state; address = 1; length = 512; errors = no_errors; tags = no_tags }
@@ -64,7 +64,7 @@ linked state = record { state = state; address = 1; length = 512; errors = no_er
 abbrev meeting : Bool → Met
 meeting locked = record { ocr = 0x00FF8000; groups = 1; locked = locked; wins = true }
 
-pub faulted_met : Taken (linked Tran) (meeting false) 16 0 column.Tran × (fault (linked Tran) (meeting false) 16 0 ≡ Bit (error_bit 29))
+pub faulted_met : Taken (linked Tran) (meeting false) 16 0 column.Tran × (fault (linked Tran) (meeting false) 16 0 ≡ Some (error_bit 29))
 unfolding move_of row_of transfer_row judged_of tagging_of argument_fault class_of
 faulted_met = (refl, refl)
 
@@ -125,6 +125,6 @@ unfolding move_of_spi row_of_spi
 illegal_met = refl
 
 pub spi_faulted_met : TakenInSpi (carded Tran 512 (in_spi false)) true 16 0 column.Tran
-    × (fault (carded Tran 512 (in_spi false)).link (met_by (carded Tran 512 (in_spi false)) true) 16 0 ≡ Bit (error_bit 29))
+    × (fault (carded Tran 512 (in_spi false)).link (met_by (carded Tran 512 (in_spi false)) true) 16 0 ≡ Some (error_bit 29))
 unfolding move_of_spi row_of_spi judged_of tagging_of argument_fault class_of holding
 spi_faulted_met = (refl, refl)

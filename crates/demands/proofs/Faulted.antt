@@ -38,8 +38,6 @@ use Rattle.status.specs.ErrorBits.{place_of, error_bit}
 use Rattle.status.specs.Status.{with_bit, word_of}
 use Rattle.status.specs.declared.ErrorBit.{ErrorBit}
 use Rattle.status.specs.declared.Errors.{Errors}
-use Rattle.status.specs.declared.Fault.{Fault}
-use Rattle.status.specs.declared.Fault.TheVariants.{Bit}
 use Rattle.store.specs.Lent.{Lent}
 use Rattle.tags.specs.Tagging.{no_tags, tag_failed}
 use Rattle.tags.specs.declared.Tagging.{Tagging}
@@ -48,6 +46,7 @@ use Rattle.demands.specs.Faulted.{fault, Faulted}
 use Rattle.demands.specs.Silenced.{Taken, Reads, InMmc, Unlent}
 use Rattle.demands.proofs.Frames.{heard_in_mmc_lem, unlent_as}
 use Rattle.demands.proofs.Silenced.{by_move}
+use Rattle.std.specs.Prelude.{Option, Some}
 
 -- the bit that is set is shown in the status
 pub bit_shown : (e : Errors) (bit : ErrorBit) (locked : Bool) (on : Column) → bit_at (place_of bit) (word_of (with_bit e bit) locked on) ≡ 1
@@ -57,7 +56,7 @@ bit_shown e bit locked on =
     ∙ set_shows e bit
 
 module _ (link : Link) (met : Met) (index argument : ℕ) (column : Column) (bit : ErrorBit) (taken : Taken link met index argument column)
-    (faults : fault link met index argument ≡ Bit bit) where
+    (faults : fault link met index argument ≡ Some bit) where
   abbrev asked : Received
   asked = received_of link met index argument
 
@@ -79,7 +78,7 @@ module _ (link : Link) (met : Met) (index argument : ℕ) (column : Column) (bit
       answer_to (record { link = with_tags link tags; errors = with_bit (reset_told link index) bit; change = Nothing }) response
 
   -- what the command did, by what checks 5 and 6 found
-  abbrev checked : Fault → Acted
+  abbrev checked : Option ErrorBit → Acted
   checked error = after_checks link index argument column tagging.tags error
 
   checked_is : command_of link met index argument ≡ answer_to (checked tagging.error) (response_of (row_of asked))
@@ -92,7 +91,7 @@ module _ (link : Link) (met : Met) (index argument : ℕ) (column : Column) (bit
   unfolding after_checks
   answer_is =
       checked_is
-      ∙ ap (λ (f : Fault). answer_to (checked f) (response_of (row_of asked))) faults
+      ∙ ap (λ (f : Option ErrorBit). answer_to (checked f) (response_of (row_of asked))) faults
       ∙ ap (λ (r : Response). answer r tagging.tags) (fault_by_r1 link met index argument bit faults column taken)
       ∙ ap (answer R1) (judged_drops link met.groups met.locked index argument bit faults)
 
@@ -111,13 +110,13 @@ module _ (link : Link) (met : Met) (index argument : ℕ) (column : Column) (bit
       }
 
 pub faulted : (link : Link) (met : Met) (index argument : ℕ) (column : Column) (bit : ErrorBit)
-    → Taken link met index argument column → fault link met index argument ≡ Bit bit
+    → Taken link met index argument column → fault link met index argument ≡ Some bit
     → Faulted link met index argument bit (command_of link met index argument)
 faulted = faulted_so
 
 -- check 5 finds bit 24
 lock_fault : (link : Link) (met : Met) (index argument : ℕ) → passes_lock met.locked index ≡ false
-    → fault link met index argument ≡ Bit (error_bit 24)
+    → fault link met index argument ≡ Some (error_bit 24)
 unfolding judged_of
 lock_fault link met index argument stopped =
     ap (λ (t : Bool). (unless t (tag_failed (error_bit 24)) (tagging_of link (size_of met.groups) index argument)).error) stopped
@@ -133,7 +132,7 @@ module _ (card : Card) (wins selected : Bool) (frame : List ℕ) (lent : Lent) (
   abbrev in_mmc : Commanded
   in_mmc = command_of card.link (met_by card wins) index argument
 
-  pub faulted_frame : (bit : ErrorBit) → fault card.link (met_by card wins) index argument ≡ Bit bit
+  pub faulted_frame : (bit : ErrorBit) → fault card.link (met_by card wins) index argument ≡ Some bit
       → Unlent card wins selected frame lent out (heard_in_mmc card.mode in_mmc)
   faulted_frame bit faults =
       unlent_as card wins selected frame lent out index argument reads (heard_in_mmc card.mode in_mmc)

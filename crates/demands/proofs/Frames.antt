@@ -24,8 +24,6 @@ use Rattle.base.specs.Choice.{pick, unless}
 use Rattle.base.specs.Refusals.{by}
 use Rattle.card.specs.Frame.{FrameJudged, frame_refused, commanded, framed, frame_judged, frame_stepped, spares, spared_told, changed_by}
 use Rattle.card_blocks.specs.Replies.{done}
-use Rattle.card_blocks.specs.declared.Outcome.{Outcome}
-use Rattle.card_blocks.specs.declared.Outcome.TheVariants.{Done, Refused}
 use Rattle.card_blocks.specs.declared.Stepped.{Stepped}
 use Rattle.card.specs.Step.{step_of}
 use Rattle.card.specs.declared.Call.TheVariants.{Frame}
@@ -49,21 +47,19 @@ use Rattle.states.specs.States.{column_of}
 use Rattle.wire.proofs.FrameTheorems.{framing}
 use Rattle.store.proofs.OnceLent.{once_lent_lem}
 use Rattle.store.specs.Lent.{Lent, Seen, seen, lending_of, once_lent}
-use Rattle.store.specs.declared.Lending.{Lending}
-use Rattle.store.specs.declared.Lending.TheVariants.{Right}
-use Rattle.wire.specs.Frames.{framing_of, checked}
+use Rattle.wire.specs.Frames.{framing_of, checked, as_fields, as_command}
 use Rattle.wire.specs.Frames as wire
-use Rattle.wire.specs.declared.Frame.TheVariants.{Command}
-use Rattle.wire.specs.declared.Framing.{Framing}
-use Rattle.wire.specs.declared.Framing.TheVariants.{Framed, Unframed}
 use Rattle.demands.specs.Silenced.{Reads, InMmc, Unlent}
+use Rattle.std.specs.Prelude.{Result, Option, Ok, Err, None}
+use Rattle.base.specs.declared.Refusal.{Refusal}
+use Rattle.wire.specs.declared.Fields.{Fields}
 
 -- a frame at a card that is lent what is right for it
-pub judged_as : (card : Card) (wins selected : Bool) (frame : List ℕ) (seen : Seen) → lending_of seen card.registers.groups ≡ Right
-    → (framing : Framing) → framing_of frame ≡ framing → frame_judged card wins selected frame seen ≡ framed card wins selected framing
+pub judged_as : (card : Card) (wins selected : Bool) (frame : List ℕ) (seen : Seen) → lending_of seen card.registers.groups ≡ Ok tt
+    → (framing : Result Fields Refusal) → framing_of frame ≡ framing → frame_judged card wins selected frame seen ≡ framed card wins selected framing
 unfolding frame_judged
 judged_as card wins selected frame seen right framing e =
-    ap (λ (l : Lending). once_lent l (frame_refused card) (framed card wins selected (framing_of frame))) right ∙ ap (framed card wins selected) e
+    ap (λ (l : Result Unit Refusal). once_lent l (frame_refused card) (framed card wins selected (framing_of frame))) right ∙ ap (framed card wins selected) e
 
 -- ---- a command, by mode
 module _ (card : Card) (wins selected : Bool) (index argument : ℕ) where
@@ -93,7 +89,7 @@ heard_in_spi card wins false index argument here = spi_high card.mode card.link 
 
 -- ---- whole frames
 module _ (card : Card) (wins selected : Bool) (frame : List ℕ) (lent : Lent) (out : List ℕ) (heard : Heard)
-    (judged : frame_judged card wins selected frame (seen lent) ≡ commanded card Done heard) where
+    (judged : frame_judged card wins selected frame (seen lent) ≡ commanded card (Ok None) heard) where
   pub unlent_judged : heard.change ≡ Nothing → Unlent card wins selected frame lent out heard
   unfolding frame_stepped
   unlent_judged same =
@@ -110,10 +106,10 @@ module _ (card : Card) (wins selected : Bool) (frame : List ℕ) (lent : Lent) (
   abbrev given : Heard
   given = heard_at card wins selected index argument
 
-  judged : frame_judged card wins selected frame (seen lent) ≡ commanded card Done given
+  judged : frame_judged card wins selected frame (seen lent) ≡ commanded card (Ok None) given
   unfolding wire.frame_of
   judged =
-      judged_as card wins selected frame (seen lent) reads.right (Framed index argument true) (framing (framing_of frame) index argument reads.command)
+      judged_as card wins selected frame (seen lent) reads.right (Ok (as_fields index argument true)) (framing (framing_of frame) index argument reads.command)
 
   pub unlent : given.change ≡ Nothing → Unlent card wins selected frame lent out given
   unlent = unlent_judged card wins selected frame lent out given judged
@@ -142,17 +138,17 @@ module _ (card : Card) (wins selected : Bool) where
   abbrev pub Unheard : Heard → Type 0
   Unheard heard = heard ≡ unheard card.mode card.link
 
-  unheard_stays : (outcome : Outcome) (heard : Heard) → Unheard heard → Stays (commanded card outcome heard)
+  unheard_stays : (outcome : Result (Option ℕ) Refusal) (heard : Heard) → Unheard heard → Stays (commanded card outcome heard)
   unheard_stays outcome heard e = subst (λ (h : Heard). Stays (commanded card outcome h)) (sym e) (refl, refl, refl)
 
   -- a card that hears no command, and no frame that is refused 3
   module _ (deaf : (index argument : ℕ) → Unheard (heard_at card wins selected index argument)) (undamaged : Unheard (damaged_of card.mode selected card.link)) where
-    framed_stays : (framing : Framing) → Stays (framed card wins selected framing)
-    framed_stays (Unframed refusal) = (refl, refl, refl)
-    framed_stays (Framed index argument right) =
-        guarded Stays (crc_passes card.mode index right)
-        (λ t. unheard_stays (Refused (by 3)) (damaged_of card.mode selected card.link) undamaged)
-        (λ t. unheard_stays Done (heard_at card wins selected index argument) (deaf index argument))
+    framed_stays : (framing : Result Fields Refusal) → Stays (framed card wins selected framing)
+    framed_stays (Err refusal) = (refl, refl, refl)
+    framed_stays (Ok fields) =
+        guarded Stays (crc_passes card.mode fields.index fields.crc_right)
+        (λ t. unheard_stays (Err (by 3)) (damaged_of card.mode selected card.link) undamaged)
+        (λ t. unheard_stays (Ok None) (heard_at card wins selected fields.index fields.argument) (deaf fields.index fields.argument))
 
     pub judged_stays : (frame : List ℕ) (seen : Seen) → Stays (frame_judged card wins selected frame seen)
     unfolding frame_judged
@@ -225,20 +221,24 @@ module _ (card : Card) (selected v w : Bool) where
       pick (as_spi card.mode selected index) h (pick card.mode.spi (unheard card.mode card.link) (heard_in_mmc card.mode c)))
       (spi_same index argument) (any_wins card v w index argument (other here)))
 
-  framed_same : (framing : Framing) → (card.mode.spi ≡ false → (argument : ℕ) → checked framing ≡ Command 2 argument → ⊥)
-      → framed card v selected framing ≡ framed card w selected framing
-  framed_same (Unframed refusal) other = refl
-  framed_same (Framed index argument true) other =
-      ap (commanded card Done)
-      (heard_same index argument (λ here. ne_eqb index 2 (λ e. other here argument (ap (λ (k : ℕ). Command k argument) e))))
-  framed_same (Framed index argument false) other =
+  fields_same : (index argument : ℕ) (right : Bool) → (card.mode.spi ≡ false → (word : ℕ) → checked (Ok (as_fields index argument right)) ≡ Ok (as_command 2 word) → ⊥)
+      → framed card v selected (Ok (as_fields index argument right)) ≡ framed card w selected (Ok (as_fields index argument right))
+  fields_same index argument true other =
+      ap (commanded card (Ok None))
+      (heard_same index argument (λ here. ne_eqb index 2 (λ e. other here argument (ap (λ (k : ℕ). Ok (as_command k argument)) e))))
+  fields_same index argument false other =
       cases card.mode.spi
       (λ (here : card.mode.spi ≡ true).
-      ap (λ (h : Heard). unless (crc_passes card.mode index false) (commanded card (Refused (by 3)) (damaged_of card.mode selected card.link)) (commanded card Done h))
+      ap (λ (h : Heard). unless (crc_passes card.mode index false) (commanded card (Err (by 3)) (damaged_of card.mode selected card.link)) (commanded card (Ok None) h))
       (heard_same index argument (λ mmc. opposite card.mode.spi here mmc)))
       (λ (here : card.mode.spi ≡ false). rw here)
 
-  pub verdict_unread : (frame : List ℕ) (seen : Seen) → (card.mode.spi ≡ false → (argument : ℕ) → wire.frame_of frame ≡ Command 2 argument → ⊥)
+  framed_same : (framing : Result Fields Refusal) → (card.mode.spi ≡ false → (argument : ℕ) → checked framing ≡ Ok (as_command 2 argument) → ⊥)
+      → framed card v selected framing ≡ framed card w selected framing
+  framed_same (Err refusal) other = refl
+  framed_same (Ok fields) other = fields_same fields.index fields.argument fields.crc_right other
+
+  pub verdict_unread : (frame : List ℕ) (seen : Seen) → (card.mode.spi ≡ false → (argument : ℕ) → wire.frame_of frame ≡ Ok (as_command 2 argument) → ⊥)
       → frame_judged card v selected frame seen ≡ frame_judged card w selected frame seen
   unfolding frame_judged wire.frame_of
   verdict_unread frame seen other =

@@ -19,8 +19,6 @@ use Rattle.card.proofs.Outcomes.{told}
 use Rattle.card.specs.Frame.{FrameJudged, frame_refused, commanded, framed, frame_judged, frame_told, frame_stepped, spares, changed_by}
 use Rattle.card.specs.Step.{step_of}
 use Rattle.card.specs.declared.Call.TheVariants.{Frame}
-use Rattle.card_blocks.specs.declared.Outcome.{Outcome}
-use Rattle.card_blocks.specs.declared.Outcome.TheVariants.{Done, Refused}
 use Rattle.card_blocks.specs.declared.Stepped.{Stepped}
 use Rattle.card_record.specs.declared.Card.{Card}
 use Rattle.card_record.specs.declared.Mode.{Mode}
@@ -32,14 +30,13 @@ use Rattle.spi.specs.Hearing.{unheard, heard_of, crc_passes, damaged_of}
 use Rattle.spi.specs.declared.Heard.{Heard}
 use Rattle.status.specs.ErrorBits.{error_bit}
 use Rattle.store.specs.Lent.{Lent, Seen, seen, lending_of, once_lent}
-use Rattle.store.specs.declared.Lending.{Lending}
-use Rattle.store.specs.declared.Lending.TheVariants.{Right, Refused as NotLent}
-use Rattle.wire.specs.Frames.{framing_of}
-use Rattle.wire.specs.declared.Framing.{Framing}
-use Rattle.wire.specs.declared.Framing.TheVariants.{Framed, Unframed}
+use Rattle.wire.specs.Frames.{framing_of, as_fields}
 use Rattle.demands.specs.InSpi.{LetOn, refuses3, is_reset, LineUnread, Ignored}
 use Rattle.demands.specs.Refused.{Refuses}
 use Rattle.demands.proofs.Frames.{judged_as, judged_stays, stepped_stays}
+use Rattle.std.specs.Prelude.{Result, Option, Ok, Err, None}
+use Rattle.base.specs.declared.Refusal.{Refusal}
+use Rattle.wire.specs.declared.Fields.{Fields}
 
 -- ---- 3
 -- a CRC7 counts where it would not pass
@@ -54,11 +51,11 @@ passes_not : (mode : Mode) (index : ℕ) (right : Bool) → crc_passes mode inde
 passes_not mode index right = by_four right mode.spi mode.checks (eqb index 0)
 
 -- what became of a frame, where this is how it was judged
-abbrev outcome_of : FrameJudged → Outcome
+abbrev outcome_of : FrameJudged → Result (Option ℕ) Refusal
 outcome_of judged = judged.stepped.reply.outcome
 
 three_or_done : (t : Bool) (card : Card) (damaged given : Heard)
-    → outcome_of (unless (not t) (commanded card (Refused (by 3)) damaged) (commanded card Done given)) ≡ pick t (Refused (by 3)) Done
+    → outcome_of (unless (not t) (commanded card (Err (by 3)) damaged) (commanded card (Ok None) given)) ≡ pick t (Err (by 3)) (Ok None)
 three_or_done true card damaged given = refl
 three_or_done false card damaged given = refl
 
@@ -75,23 +72,23 @@ module _ (card : Card) (wins selected : Bool) (frame : List ℕ) (lent : Lent) (
   abbrev three : Bool
   three = refuses3 card.mode index right
 
-  pub past_two : (step_of card (Frame wins selected) frame (seen lent) (length out)).reply.outcome ≡ pick three (Refused (by 3)) Done
+  pub past_two : (step_of card (Frame wins selected) frame (seen lent) (length out)).reply.outcome ≡ pick three (Err (by 3)) (Ok None)
   past_two =
       let damaged : Heard = damaged_of card.mode selected card.link in
       let given : Heard = heard_of card.mode selected card.link (met_by card wins) index argument in
       outcome_told card wins selected frame (seen lent)
-      ∙ ap outcome_of (judged_as card wins selected frame (seen lent) on.lent_right (Framed index argument right) on.framing)
-      ∙ ap (λ (t : Bool). outcome_of (unless t (commanded card (Refused (by 3)) damaged) (commanded card Done given))) (passes_not card.mode index right)
+      ∙ ap outcome_of (judged_as card wins selected frame (seen lent) on.lent_right (Ok (as_fields index argument right)) on.framing)
+      ∙ ap (λ (t : Bool). outcome_of (unless t (commanded card (Err (by 3)) damaged) (commanded card (Ok None) given))) (passes_not card.mode index right)
       ∙ three_or_done three card damaged given
 
   pub crc_unread : three ≡ false
       → frame_judged card wins selected frame (seen lent)
-      ≡ commanded card Done (heard_of card.mode selected card.link (met_by card wins) index argument)
+      ≡ commanded card (Ok None) (heard_of card.mode selected card.link (met_by card wins) index argument)
   crc_unread counts =
       let damaged : Heard = damaged_of card.mode selected card.link in
       let given : Heard = heard_of card.mode selected card.link (met_by card wins) index argument in
-      judged_as card wins selected frame (seen lent) on.lent_right (Framed index argument right) on.framing
-      ∙ ap (λ (t : Bool). unless t (commanded card (Refused (by 3)) damaged) (commanded card Done given))
+      judged_as card wins selected frame (seen lent) on.lent_right (Ok (as_fields index argument right)) on.framing
+      ∙ ap (λ (t : Bool). unless t (commanded card (Err (by 3)) damaged) (commanded card (Ok None) given))
       (passes_not card.mode index right ∙ ap not counts)
 
   pub three_exactly : (Refuses card (Frame wins selected) frame lent out (by 3) → three ≡ true)
@@ -100,30 +97,30 @@ module _ (card : Card) (wins selected : Bool) (frame : List ℕ) (lent : Lent) (
     λ (e : Refuses card (Frame wins selected) frame lent out (by 3)).
         cases three (λ (t : three ≡ true). t)
         (λ (t : three ≡ false).
-        let done : Done ≡ Refused (by 3) = sym (ap (λ (b : Bool). pick b (Refused (by 3)) Done) t) ∙ sym past_two ∙ e in
+        let done : Ok None ≡ Err (by 3) = sym (ap (λ (b : Bool). pick b (Err (by 3)) (Ok None)) t) ∙ sym past_two ∙ e in
         clash cc),
-    λ (t : three ≡ true). past_two ∙ ap (λ (b : Bool). pick b (Refused (by 3)) Done) t,
+    λ (t : three ≡ true). past_two ∙ ap (λ (b : Bool). pick b (Err (by 3)) (Ok None)) t,
   )
 
 -- ---- the line
 guarded_alike : (t : Bool) (card : Card) (damaged given other_damaged other_given : Heard)
-    → outcome_of (unless t (commanded card (Refused (by 3)) damaged) (commanded card Done given))
-    ≡ outcome_of (unless t (commanded card (Refused (by 3)) other_damaged) (commanded card Done other_given))
+    → outcome_of (unless t (commanded card (Err (by 3)) damaged) (commanded card (Ok None) given))
+    ≡ outcome_of (unless t (commanded card (Err (by 3)) other_damaged) (commanded card (Ok None) other_given))
 guarded_alike true card damaged given other_damaged other_given = refl
 guarded_alike false card damaged given other_damaged other_given = refl
 
-framed_alike : (card : Card) (wins : Bool) (framing : Framing) → outcome_of (framed card wins true framing) ≡ outcome_of (framed card wins false framing)
-framed_alike card wins (Unframed refusal) = refl
-framed_alike card wins (Framed index argument right) =
-    guarded_alike (crc_passes card.mode index right) card
-    (damaged_of card.mode true card.link) (heard_of card.mode true card.link (met_by card wins) index argument)
-    (damaged_of card.mode false card.link) (heard_of card.mode false card.link (met_by card wins) index argument)
+framed_alike : (card : Card) (wins : Bool) (framing : Result Fields Refusal) → outcome_of (framed card wins true framing) ≡ outcome_of (framed card wins false framing)
+framed_alike card wins (Err refusal) = refl
+framed_alike card wins (Ok fields) =
+    guarded_alike (crc_passes card.mode fields.index fields.crc_right) card
+    (damaged_of card.mode true card.link) (heard_of card.mode true card.link (met_by card wins) fields.index fields.argument)
+    (damaged_of card.mode false card.link) (heard_of card.mode false card.link (met_by card wins) fields.index fields.argument)
 
-lent_alike : (lending : Lending) (card : Card) (wins : Bool) (framing : Framing)
+lent_alike : (lending : Result Unit Refusal) (card : Card) (wins : Bool) (framing : Result Fields Refusal)
     → outcome_of (once_lent lending (frame_refused card) (framed card wins true framing))
     ≡ outcome_of (once_lent lending (frame_refused card) (framed card wins false framing))
-lent_alike Right card wins framing = framed_alike card wins framing
-lent_alike (NotLent refusal) card wins framing = refl
+lent_alike (Ok tt) card wins framing = framed_alike card wins framing
+lent_alike (Err refusal) card wins framing = refl
 
 pub line_unnumbered : (card : Card) (wins : Bool) (frame : List ℕ) (seen : Seen) (room : ℕ)
     → (step_of card (Frame wins true) frame seen room).reply.outcome ≡ (step_of card (Frame wins false) frame seen room).reply.outcome
@@ -142,18 +139,22 @@ module _ (card : Card) (here : card.mode.spi ≡ false) where
       pick spi (pick (selected && not (is_inactive card.link)) (faulted card.mode card.link (error_bit 23)) (unheard card.mode card.link))
       (unheard card.mode (damaged_link card.link))) here
 
-  framed_unread : (wins : Bool) (framing : Framing) → is_reset framing ≡ false → framed card wins true framing ≡ framed card wins false framing
-  framed_unread wins (Unframed refusal) e = refl
-  framed_unread wins (Framed index argument true) e = ap (commanded card Done) (line_unread card.mode card.link (met_by card wins) index argument here e)
-  framed_unread wins (Framed index argument false) e = refused3 true ∙ sym (refused3 false)
+  fields_unread : (wins : Bool) (index argument : ℕ) (right : Bool) → is_reset (Ok (as_fields index argument right)) ≡ false
+      → framed card wins true (Ok (as_fields index argument right)) ≡ framed card wins false (Ok (as_fields index argument right))
+  fields_unread wins index argument true e = ap (commanded card (Ok None)) (line_unread card.mode card.link (met_by card wins) index argument here e)
+  fields_unread wins index argument false e = refused3 true ∙ sym (refused3 false)
     where
-      refused3 : (selected : Bool) → framed card wins selected (Framed index argument false)
-          ≡ commanded card (Refused (by 3)) (unheard card.mode (damaged_link card.link))
+      refused3 : (selected : Bool) → framed card wins selected (Ok (as_fields index argument false))
+          ≡ commanded card (Err (by 3)) (unheard card.mode (damaged_link card.link))
       refused3 selected =
           ap (λ (spi : Bool).
-          unless (spi && (not card.mode.checks && not (eqb index 0))) (commanded card (Refused (by 3)) (damaged_of card.mode selected card.link))
-          (commanded card Done (heard_of card.mode selected card.link (met_by card wins) index argument))) here
-          ∙ ap (commanded card (Refused (by 3))) (damaged_unread selected)
+          unless (spi && (not card.mode.checks && not (eqb index 0))) (commanded card (Err (by 3)) (damaged_of card.mode selected card.link))
+          (commanded card (Ok None) (heard_of card.mode selected card.link (met_by card wins) index argument))) here
+          ∙ ap (commanded card (Err (by 3))) (damaged_unread selected)
+
+  framed_unread : (wins : Bool) (framing : Result Fields Refusal) → is_reset framing ≡ false → framed card wins true framing ≡ framed card wins false framing
+  framed_unread wins (Err refusal) e = refl
+  framed_unread wins (Ok fields) e = fields_unread wins fields.index fields.argument fields.crc_right e
 
   pub line_unread_frame : (wins : Bool) (frame : List ℕ) (lent : Lent) (room : ℕ) → is_reset (framing_of frame) ≡ false → LineUnread card wins frame lent room
   unfolding frame_stepped frame_judged

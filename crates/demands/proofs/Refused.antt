@@ -31,7 +31,6 @@ use Rattle.card_blocks.specs.declared.BlockJudged.{BlockJudged}
 use Rattle.card.specs.declared.Call.{Call}
 use Rattle.card.specs.declared.Call.TheVariants.{Frame, BlockIn, BlockOut, WorkDone, PowerOn}
 use Rattle.card_blocks.specs.declared.OutJudged.{OutJudged}
-use Rattle.card_blocks.specs.declared.Outcome.TheVariants.{Done, Refused}
 use Rattle.card_blocks.specs.declared.Sending.{Sending}
 use Rattle.card_blocks.specs.declared.Sending.TheVariants as sending
 use Rattle.card_blocks.specs.declared.Stepped.{Stepped}
@@ -61,10 +60,10 @@ use Rattle.status.specs.Bits.{bit_at}
 use Rattle.status.specs.ErrorBits.{error_bit}
 use Rattle.status.specs.Status.{flag}
 use Rattle.status.specs.declared.Errors.{Errors}
-use Rattle.status.specs.declared.Fault.{Fault}
-use Rattle.status.specs.declared.Fault.TheVariants.{None, Bit}
 use Rattle.store.specs.Lent.{Lent, Seen, seen}
 use Rattle.demands.specs.Refused.{numbers, named_frame, named, sent_beside, Refuses, ByNumber, Keeps, inactive, given_up, moved, noted, noted_in, cleared}
+use Rattle.std.specs.Prelude.{Option, Result, Ok, Err, Some, None}
+use Rattle.status.specs.declared.ErrorBit.{ErrorBit}
 
 -- a refused block gives up what was awaited as document 01 says
 lands : (incoming : Incoming) → given_up (Rcv incoming) ≡ after_refused incoming
@@ -92,11 +91,11 @@ module _ (card : Card) (wins selected : Bool) where
       cases (is_inactive card.link)
       (λ (t : is_inactive card.link ≡ true). (simp (here, t), simp here)) (λ (t : is_inactive card.link ≡ false). (simp (here, t), simp here)))
 
-  damage_told : (seen : Seen) → frame_told card seen (commanded card (Refused (by 3)) hurt)
-      ≡ replied (named (Frame wins selected) 3 card) (Refused (by 3)) (sent_beside (Frame wins selected) 3 card)
+  damage_told : (seen : Seen) → frame_told card seen (commanded card (Err (by 3)) hurt)
+      ≡ replied (named (Frame wins selected) 3 card) (Err (by 3)) (sent_beside (Frame wins selected) 3 card)
   damage_told seen =
-      ap (λ (c : Change). spared_told (replied (hearing card hurt) (Refused (by 3)) hurt.sent) (spares card seen c)) (damage_unchanged card.mode selected card.link)
-      ∙ ap₂ (λ (c : Card) (s : Sent). replied c (Refused (by 3)) s) damage_leaves.0 damage_leaves.1
+      ap (λ (c : Change). spared_told (replied (hearing card hurt) (Err (by 3)) hurt.sent) (spares card seen c)) (damage_unchanged card.mode selected card.link)
+      ∙ ap₂ (λ (c : Card) (s : Sent). replied c (Err (by 3)) s) damage_leaves.0 damage_leaves.1
 
 -- ---- 17
 response_named : (spi t : Bool) → pick t (pick spi (DataResponse 0x0B) Nothing) Nothing ≡ pick (spi && t) (DataResponse 0x0B) Nothing
@@ -112,8 +111,12 @@ module _ (card : Card) (r : Refusal) where
     pub next : stepped.card ≡ named call (number_of r) card
     pub sent : stepped.reply.sent ≡ sent_beside call (number_of r) card
 
-  left : (call : Call) (n : ℕ) → number_of (refusal_of n) ≡ n → among n (numbers call) ≡ true → Refused (refusal_of n) ≡ Refused r
-      → Left call (replied (named call n card) (Refused (refusal_of n)) (sent_beside call n card))
+  -- what a call answers that is refused so
+  abbrev Told : Refusal → Type 0
+  Told refusal = ◌≡◌ {A = Result (Option ℕ) Refusal} (Err refusal) (Err r)
+
+  left : (call : Call) (n : ℕ) → number_of (refusal_of n) ≡ n → among n (numbers call) ≡ true → Told (refusal_of n)
+      → Left call (replied (named call n card) (Err (refusal_of n)) (sent_beside call n card))
   left call n right listed e =
       let same : refusal_of n ≡ r = cc in
       let m : number_of r ≡ n = sym (ap number_of same) ∙ right in
@@ -121,31 +124,31 @@ module _ (card : Card) (r : Refusal) where
 
   -- a call that is refused with a number and leaves the record
   abbrev Same : Call → ℕ → Type 0
-  Same call n = Refused (refusal_of n) ≡ Refused r → Left call (refused card (refusal_of n))
+  Same call n = Told (refusal_of n) → Left call (refused card (refusal_of n))
 
   -- ---- a block in
   module _ (incoming : Incoming) (on : card.link.state ≡ Rcv incoming) where
     -- the record after a refusal with a number and a fault, in a state, and what is sent
-    abbrev leaves : ℕ → Fault → State → Sent → Stepped
+    abbrev leaves : ℕ → Option ErrorBit → State → Sent → Stepped
     leaves n fault state sent =
-        replied (with_link card (with_errors (with_state card.link state) (with_fault card.link.errors fault))) (Refused (refusal_of n)) sent
+        replied (with_link card (with_errors (with_state card.link state) (with_fault card.link.errors fault))) (Err (refusal_of n)) sent
 
-    up : (n : ℕ) (fault : Fault) → Left BlockIn (leaves n fault (given_up card.link.state) (sent_beside BlockIn n card))
+    up : (n : ℕ) (fault : Option ErrorBit) → Left BlockIn (leaves n fault (given_up card.link.state) (sent_beside BlockIn n card))
         → Left BlockIn (leaves n fault (after_refused incoming) (pick (card.mode.spi && eqb n 17) (DataResponse 0x0B) Nothing))
     up n fault l =
         subst (λ (s : Sent). Left BlockIn (leaves n fault (after_refused incoming) s)) (response_named card.mode.spi (eqb n 17))
         (subst (λ (s : State). Left BlockIn (leaves n fault s (sent_beside BlockIn n card))) (ap given_up on ∙ lands incoming) l)
 
-    awaited_left : {refusal : Refusal} {fault : Fault} → Awaited card incoming refusal fault → Refused refusal ≡ Refused r
+    awaited_left : {refusal : Refusal} {fault : Option ErrorBit} → Awaited card incoming refusal fault → Told refusal
         → Left BlockIn (block_refused card incoming refusal fault).stepped
     unfolding block_refused
-    awaited_left wrong_length_lem e = up 16 (Bit (error_bit 29)) (left BlockIn 16 refl refl e)
+    awaited_left wrong_length_lem e = up 16 (Some (error_bit 29)) (left BlockIn 16 refl refl e)
     awaited_left wrong_crc e = up 17 None (left BlockIn 17 refl refl e)
-    awaited_left (past_end at w outside) e = up 18 (Bit (error_bit 31)) (left BlockIn 18 refl refl e)
-    awaited_left protected e = up 19 (Bit (error_bit 26)) (left BlockIn 19 refl refl e)
-    awaited_left failed e = up 20 (Bit (error_bit 24)) (left BlockIn 20 refl refl e)
+    awaited_left (past_end at w outside) e = up 18 (Some (error_bit 31)) (left BlockIn 18 refl refl e)
+    awaited_left protected e = up 19 (Some (error_bit 26)) (left BlockIn 19 refl refl e)
+    awaited_left failed e = up 20 (Some (error_bit 24)) (left BlockIn 20 refl refl e)
 
-  in_left : (block : List ℕ) (seen : Seen) {j : BlockJudged} → InOutcome card block seen j → j.stepped.reply.outcome ≡ Refused r
+  in_left : (block : List ℕ) (seen : Seen) {j : BlockJudged} → InOutcome card block seen j → j.stepped.reply.outcome ≡ Err r
       → Left BlockIn j.stepped × (j.storing ≡ storing.Nothing)
   unfolding block_refused block_good
   in_left block seen (unreads n listed) e =
@@ -156,7 +159,7 @@ module _ (card : Card) (r : Refusal) where
   in_left block seen (forces on erased) e = clash cc
 
   -- ---- a block out
-  out_left : {j : OutJudged} → OutOutcome card j → j.stepped.reply.outcome ≡ Refused r → Left BlockOut j.stepped × (j.sending ≡ sending.Nothing)
+  out_left : {j : OutJudged} → OutOutcome card j → j.stepped.reply.outcome ≡ Err r → Left BlockOut j.stepped × (j.sending ≡ sending.Nothing)
   unfolding out_refused out_good
   out_left (unsends n listed) e =
       (each (Same BlockOut) (12 ∷ 15 ∷ 6 ∷ []) (left BlockOut 12 refl refl, (left BlockOut 15 refl refl, (left BlockOut 6 refl refl, tt))) n listed e, refl)
@@ -170,7 +173,7 @@ module _ (card : Card) (r : Refusal) where
     call = Frame wins selected
 
     frame_left : {j : FrameJudged} → FrameOutcome card wins selected frame seen j
-        → (frame_told card seen j).reply.outcome ≡ Refused r → Left call (frame_told card seen j) × (j.change ≡ change.Nothing)
+        → (frame_told card seen j).reply.outcome ≡ Err r → Left call (frame_told card seen j) × (j.change ≡ change.Nothing)
     frame_left (unheard n listed) e =
         (each (Same call) (12 ∷ 1 ∷ 2 ∷ []) (left call 12 refl refl, (left call 1 refl refl, (left call 2 refl refl, tt))) n listed e, refl)
     frame_left (damaged index argument is counts) e =
@@ -180,8 +183,8 @@ module _ (card : Card) (r : Refusal) where
         )
     frame_left (commands index argument right is passes lent) e =
         let given : Heard = heard_of card.mode selected card.link (met_by card wins) index argument in
-        let done : (frame_told card seen (commanded card Done given)).reply.outcome ≡ Done =
-        told (λ (s : Stepped). s.reply.outcome ≡ Done) (commanded card Done given).stepped (spares card seen given.change) refl refl
+        let done : (frame_told card seen (commanded card (Ok None) given)).reply.outcome ≡ Ok None =
+        told (λ (s : Stepped). s.reply.outcome ≡ Ok None) (commanded card (Ok None) given).stepped (spares card seen given.change) refl refl
         in
         clash cc
 

@@ -15,10 +15,8 @@ use Rattle.base.specs.Refusals.{number_of, by}
 use Rattle.base.specs.declared.Refusal.{Refusal}
 use Rattle.bus.specs.Bus.{most, count_of, cards_of, with_cards, added_to, damaged_card, line_of, shown_of, bus_indices, refused_on, command_for, framed_on, bus_frame}
 use Rattle.bus.specs.declared.Added.{Added}
-use Rattle.bus.specs.declared.Adding.TheVariants.{Refused as NotAdded}
 use Rattle.bus.specs.declared.Bus.{Bus}
 use Rattle.bus.specs.declared.Framed.{Framed as Answered}
-use Rattle.bus.specs.declared.Shown.TheVariants.{Refused}
 use Rattle.command.specs.Command.{damaged_link}
 use Rattle.crc.specs.Bits.{bits}
 use Rattle.crc.specs.Crc.{divide, remainder}
@@ -26,11 +24,11 @@ use Rattle.moves.specs.Indices.{among}
 use Rattle.card_record.specs.Making.{refused_make}
 use Rattle.card_record.specs.declared.Card.{Card}
 use Rattle.spi.proofs.Laws.{is_inactive}
-use Rattle.wire.specs.Frames.{crc7_of, field, fields_of, framing_of}
-use Rattle.wire.specs.declared.Framing.{Framing}
-use Rattle.wire.specs.declared.Framing.TheVariants.{Framed}
+use Rattle.wire.specs.Frames.{crc7_of, field, fields_of, framing_of, as_fields}
 use Rattle.demands.specs.Refused.{damaged}
 use Rattle.demands.specs.RefusedOnBus.{frame_numbers, add_numbers, named_bus, RefusesFrame, FrameByNumber, RefusesCard, AddByNumber}
+use Rattle.std.specs.Prelude.{Result, Ok, Err}
+use Rattle.wire.specs.declared.Fields.{Fields}
 
 -- ---- a frame
 -- "3 sets bit 23 .. of every card, unless Inactive", and of none in SPI
@@ -55,7 +53,7 @@ module _ (bus : Bus) (r : Refusal) where
     pub unshown : given.line ≡ replicate 17 0
 
   abbrev Leaves : Answered → Type 0
-  Leaves given = given.shown ≡ Refused r → Left given
+  Leaves given = given.shown ≡ Err r → Left given
 
   left : (given : Refusal) (after : Bus) → among (number_of given) frame_numbers ≡ true → after ≡ named_bus (number_of given) bus
       → Leaves (refused_on after given)
@@ -68,7 +66,7 @@ module _ (bus : Bus) (r : Refusal) where
       }
 
   -- what the line shows is no refusal
-  shows : (line : List ℕ) → shown_of line ≡ Refused r → ⊥
+  shows : (line : List ℕ) → shown_of line ≡ Err r → ⊥
   shows [] e = clash cc
   shows (b ∷ line) e = clash cc
 
@@ -77,10 +75,10 @@ module _ (bus : Bus) (r : Refusal) where
   commanded index argument =
       guarded Leaves (among index bus_indices) (λ t. left (by 14) bus refl refl) (λ t e. absurd (shows (line_of (cards_of bus) index argument) e))
 
-  abbrev Hears : Framing → Type 0
+  abbrev Hears : Result Fields Refusal → Type 0
   Hears framing = Leaves (framed_on bus framing)
 
-  by_crc : (index argument : ℕ) (right : Bool) → Hears (Framed index argument right)
+  by_crc : (index argument : ℕ) (right : Bool) → Hears (Ok (as_fields index argument right))
   by_crc index argument right =
       guarded Leaves right (λ t. left (by 3) (with_cards bus (map damaged_card (cards_of bus))) refl (ap (with_cards bus) (damaged_each (cards_of bus))))
       (λ t. commanded index argument)
@@ -111,9 +109,9 @@ frame_by_number bus frame r e =
 -- ---- a card that is added
 module _ (bus : Bus) (r : Refusal) where
   abbrev Unadded : Added → Type 0
-  Unadded given = given.adding ≡ NotAdded r → (among (number_of r) add_numbers ≡ true) × (given.bus ≡ bus)
+  Unadded given = given.adding ≡ Err r → (among (number_of r) add_numbers ≡ true) × (given.bus ≡ bus)
 
-  full : Unadded (record { bus = bus; adding = NotAdded (by 13) })
+  full : Unadded (record { bus = bus; adding = Err (by 13) })
   full e =
       let same : by 13 ≡ r = cc in
       (ap (λ (q : Refusal). among (number_of q) add_numbers) (sym same), refl)

@@ -20,7 +20,8 @@ use Rattle.command.specs.Command.{received_of, moved_by, command_of}
 use Rattle.command.specs.declared.Met.{Met}
 use Rattle.moves.proofs.Among.{each}
 use Rattle.moves.proofs.Laws.{inactive, bit_22_states}
-use Rattle.moves.proofs.Orders.{move_number, moves_numbered, everywhere}
+use Rattle.moves.proofs.Numbers.{move_number, moves_numbered}
+use Rattle.moves.proofs.Orders.{everywhere}
 use Rattle.moves.proofs.Spans.{told}
 use Rattle.moves.specs.Moves.{in_state, in_row, legal, unjudged, no_legal_move, move_of}
 use Rattle.moves.specs.Rows.{window, row_of}

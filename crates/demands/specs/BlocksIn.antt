@@ -1,6 +1,6 @@
 -- Document 02, request 1, a block in: when 16 and 17 are given, in SPI and in MMC mode.
 -- Assumes nothing.
-use Rattle.std.specs.Prelude.{◌≡◌, Bool, not, ◌&&◌, ◌||◌, List, ℕ, ◌+◌, eqb, length, get_or}
+use Rattle.std.specs.Prelude.{◌≡◌, Bool, not, ◌&&◌, ◌||◌, List, ℕ, ◌+◌, eqb, length, get_or, Ok}
 use Rattle.base.specs.Choice.{pick}
 use Rattle.card_blocks.specs.BlockIn.{awaited_length}
 use Rattle.card_blocks.specs.Framing.{unstarted}
@@ -10,12 +10,11 @@ use Rattle.crc.specs.Crc.{crc16}
 use Rattle.states.specs.declared.Incoming.{Incoming}
 use Rattle.states.specs.declared.State.TheVariants.{Rcv}
 use Rattle.store.specs.Lent.{Lent, seen, lending_of}
-use Rattle.store.specs.declared.Lending.TheVariants.{Right}
 use Rattle.wire.specs.Blocks.{payload_of, crc_in}
 
 -- a block that 12 and 15 let on: the card is lent what is its own, and awaits a block
 pub record Awaited (card : Card) (lent : Lent) (incoming : Incoming) : Type 0 where
-  pub lent_right : lending_of (seen lent) card.registers.groups ≡ Right
+  pub lent_right : lending_of (seen lent) card.registers.groups ≡ Ok tt
   pub awaiting : card.link.state ≡ Rcv incoming
 
 -- whether it is then refused 16: its length is not the awaited one and two more, for its CRC16; in SPI not three more, or "start byte FE

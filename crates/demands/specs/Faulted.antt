@@ -1,6 +1,6 @@
 -- Document 01, "How a card takes a frame", checks 5 and 6: the taken commands that are answered with an error.
 -- Assumes nothing.
-use Rattle.std.specs.Prelude.{◌≡◌, ℕ}
+use Rattle.std.specs.Prelude.{◌≡◌, ℕ, Option}
 use Rattle.command.specs.Obey.{judged_of, reset_told}
 use Rattle.command.specs.declared.Change.TheVariants.{Nothing}
 use Rattle.command.specs.declared.Commanded.{Commanded}
@@ -12,12 +12,11 @@ use Rattle.status.specs.Bits.{bit_at}
 use Rattle.status.specs.ErrorBits.{place_of}
 use Rattle.status.specs.Status.{no_errors, with_bit, word_of}
 use Rattle.status.specs.declared.ErrorBit.{ErrorBit}
-use Rattle.status.specs.declared.Fault.{Fault}
 use Rattle.tags.specs.Tagging.{no_tags}
 
 module _ (link : Link) (met : Met) (index argument : ℕ) where
   -- what checks 5 and 6 find: nothing, or an error bit
-  abbrev pub fault : Fault
+  abbrev pub fault : Option ErrorBit
   fault = (judged_of link met.groups met.locked index argument).error
 
   -- "R1 reports pending bits and those its command sets at once", with "the state on reception"

@@ -1,6 +1,6 @@
 -- Document 02, request 1, frames at a card: when 3 is given, what a line that is high leaves, and what becomes of a command in SPI.
 -- Assumes nothing.
-use Rattle.std.specs.Prelude.{◌≡◌, Bool, true, false, not, ◌&&◌, ◌||◌, List, ℕ, eqb, length}
+use Rattle.std.specs.Prelude.{◌≡◌, Bool, true, false, not, ◌&&◌, ◌||◌, List, ℕ, eqb, length, Result, Ok, Err}
 use Rattle.card.specs.Frame.{hearing}
 use Rattle.card.specs.Step.{step_of, lent_after, output_of}
 use Rattle.card.specs.declared.Call.TheVariants.{Frame}
@@ -21,17 +21,16 @@ use Rattle.states.specs.declared.Column.{Column}
 use Rattle.status.specs.Status.{with_bit}
 use Rattle.status.specs.declared.ErrorBit.{ErrorBit}
 use Rattle.store.specs.Lent.{Lent, seen, lending_of}
-use Rattle.store.specs.declared.Lending.TheVariants.{Right}
 use Rattle.tags.specs.Tagging.{no_tags}
-use Rattle.wire.specs.Frames.{framing_of}
-use Rattle.wire.specs.declared.Framing.{Framing}
-use Rattle.wire.specs.declared.Framing.TheVariants.{Framed, Unframed}
+use Rattle.wire.specs.Frames.{framing_of, as_fields}
 use Rattle.demands.specs.Refused.{inactive, noted, cleared, r1_from}
+use Rattle.base.specs.declared.Refusal.{Refusal}
+use Rattle.wire.specs.declared.Fields.{Fields}
 
 -- a frame that 12, 1 and 2 let on: it has an index, an argument, and a CRC7 that is right or wrong
 pub record LetOn (card : Card) (frame : List ℕ) (lent : Lent) (index argument : ℕ) (right : Bool) : Type 0 where
-  pub lent_right : lending_of (seen lent) card.registers.groups ≡ Right
-  pub framing : framing_of frame ≡ Framed index argument right
+  pub lent_right : lending_of (seen lent) card.registers.groups ≡ Ok tt
+  pub framing : framing_of frame ≡ Ok (as_fields index argument right)
 
 -- whether it is then refused 3: a wrong CRC7, and in SPI "3 (CMD0 apart) .. come[s] only with CRC on", while "CMD0 is always checked"
 abbrev pub refuses3 : Mode → ℕ → Bool → Bool
@@ -45,9 +44,9 @@ pub record Ignored (card : Card) (wins : Bool) (frame : List ℕ) (lent : Lent) 
   pub output_kept : output_of card (Frame wins false) lent out ≡ out
 
 -- an undamaged CMD0
-abbrev pub is_reset : Framing → Bool
-is_reset (Unframed refusal) = false
-is_reset (Framed index argument right) = right && eqb index 0
+abbrev pub is_reset : Result Fields Refusal → Bool
+is_reset (Err refusal) = false
+is_reset (Ok fields) = fields.crc_right && eqb fields.index 0
 
 -- with the line low a frame does what it does with the line high, to the card and to what it is lent
 pub record LineUnread (card : Card) (wins : Bool) (frame : List ℕ) (lent : Lent) (room : ℕ) : Type 0 where

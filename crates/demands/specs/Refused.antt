@@ -2,14 +2,13 @@
 -- or in lent memory, map or output except: 3 sets bit 23 of the card .. unless Inactive; 16 to 21 at a card act as told below." Document 02,
 -- request 1: what a card in SPI sends beside 3 and 17.
 -- Assumes nothing.
-use Rattle.std.specs.Prelude.{◌≡◌, Bool, true, not, ◌&&◌, List, [], ◌∷◌, ℕ, eqb, length}
+use Rattle.std.specs.Prelude.{◌≡◌, Bool, true, not, ◌&&◌, List, [], ◌∷◌, ℕ, eqb, length, Err}
 use Rattle.base.specs.Choice.{pick}
 use Rattle.base.specs.Refusals.{number_of}
 use Rattle.base.specs.declared.Refusal.{Refusal}
 use Rattle.card.specs.Step.{step_of, lent_after, output_of}
 use Rattle.card.specs.declared.Call.{Call}
 use Rattle.card.specs.declared.Call.TheVariants.{Frame, BlockIn, BlockOut, WorkDone, PowerOn}
-use Rattle.card_blocks.specs.declared.Outcome.TheVariants.{Refused}
 use Rattle.card_record.specs.declared.Sent.{Sent}
 use Rattle.card_record.specs.declared.Sent.TheVariants.{Nothing, SpiR1, DataResponse}
 use Rattle.moves.specs.Indices.{among}
@@ -116,7 +115,7 @@ sent_beside PowerOn number card = Nothing
 module _ (card : Card) (call : Call) (input : List ℕ) (lent : Lent) (out : List ℕ) where
   -- the call is refused
   abbrev pub Refuses : Refusal → Type 0
-  Refuses refusal = (step_of card call input (seen lent) (length out)).reply.outcome ≡ Refused refusal
+  Refuses refusal = (step_of card call input (seen lent) (length out)).reply.outcome ≡ Err refusal
 
   -- "Refusals give a number and no value": one of the call's numbers, the record and the line bytes that are named for it, and everything
   -- lent as it was

@@ -2,14 +2,12 @@
 -- with each. "Nothing changes in the record .. except: 3 sets bit 23 of the card, and on a bus of every card, unless Inactive". Document 02,
 -- request 1: "a frame with the line high is ignored (on a bus it is high)".
 -- Assumes nothing.
-use Rattle.std.specs.Prelude.{◌≡◌, true, false, List, [], ◌∷◌, map, ℕ, eqb, replicate}
+use Rattle.std.specs.Prelude.{◌≡◌, true, false, List, [], ◌∷◌, map, ℕ, eqb, replicate, Err}
 use Rattle.base.specs.Choice.{pick}
 use Rattle.base.specs.Refusals.{number_of}
 use Rattle.base.specs.declared.Refusal.{Refusal}
 use Rattle.bus.specs.Bus.{cards_of, with_cards, added_to, bus_frame}
-use Rattle.bus.specs.declared.Adding.TheVariants.{Refused as NotAdded}
 use Rattle.bus.specs.declared.Bus.{Bus}
-use Rattle.bus.specs.declared.Shown.TheVariants.{Refused}
 use Rattle.moves.specs.Indices.{among}
 use Rattle.card_record.specs.declared.Card.{Card}
 use Rattle.demands.specs.Refused.{damaged}
@@ -29,7 +27,7 @@ named_bus number bus = pick (eqb number 3) (with_cards bus (map (damaged false) 
 module _ (bus : Bus) (frame : List ℕ) where
   -- the frame is refused
   abbrev pub RefusesFrame : Refusal → Type 0
-  RefusesFrame refusal = (bus_frame bus frame).shown ≡ Refused refusal
+  RefusesFrame refusal = (bus_frame bus frame).shown ≡ Err refusal
 
   -- "Refusals give a number and no value": one of the call's numbers, the bus that is named for it, and nothing on the line
   pub record FrameByNumber (refusal : Refusal) : Type 0 where
@@ -40,7 +38,7 @@ module _ (bus : Bus) (frame : List ℕ) where
 module _ (bus : Bus) (card : Card) where
   -- the card is not added
   abbrev pub RefusesCard : Refusal → Type 0
-  RefusesCard refusal = (added_to bus card).adding ≡ NotAdded refusal
+  RefusesCard refusal = (added_to bus card).adding ≡ Err refusal
 
   -- the call's one number, and the bus as it was
   pub record AddByNumber (refusal : Refusal) : Type 0 where

@@ -1,13 +1,12 @@
 -- Document 01, "How a card takes a frame", checks 1, 3 and 4: the commands that a card in MMC mode passes over in silence; and whole frames
 -- that change nothing lent, in MMC mode and in SPI.
 -- Assumes nothing.
-use Rattle.std.specs.Prelude.{◌≡◌, Bool, true, false, ◌&&◌, List, [], ◌∷◌, ℕ, ◌/◌, eqb, length}
+use Rattle.std.specs.Prelude.{◌≡◌, Bool, true, false, ◌&&◌, List, [], ◌∷◌, ℕ, ◌/◌, eqb, length, Ok, None}
 use Rattle.base.specs.Choice.{pick}
 use Rattle.card_blocks.specs.Replies.{replied}
 use Rattle.card.specs.Frame.{hearing}
 use Rattle.card.specs.Step.{step_of, lent_after, output_of}
 use Rattle.card.specs.declared.Call.TheVariants.{Frame}
-use Rattle.card_blocks.specs.declared.Outcome.TheVariants.{Done}
 use Rattle.command.specs.Answers.{silent}
 use Rattle.command.specs.Command.{received_of, command_of}
 use Rattle.command.specs.declared.Met.{Met}
@@ -27,9 +26,7 @@ use Rattle.states.specs.declared.Column.TheVariants.{Idle, Ready, Ident, Tran, D
 use Rattle.status.specs.ErrorBits.{error_bit}
 use Rattle.status.specs.Status.{with_bit}
 use Rattle.store.specs.Lent.{Lent, seen, lending_of}
-use Rattle.store.specs.declared.Lending.TheVariants.{Right}
-use Rattle.wire.specs.Frames.{frame_of}
-use Rattle.wire.specs.declared.Frame.TheVariants.{Command}
+use Rattle.wire.specs.Frames.{frame_of, as_command}
 
 -- the table's column "Move" has nothing for a state
 abbrev pub none_from : Column → List (Column × Column) → Bool
@@ -88,8 +85,8 @@ module _ (link : Link) (met : Met) (index argument : ℕ) where
 
 -- a frame that is no refusal in either mode: "Frame: 1, 2, 3; at a card 12 comes first". (`crc_unread` has those of which SPI reads no CRC7)
 pub record Reads (card : Card) (frame : List ℕ) (lent : Lent) (index argument : ℕ) : Type 0 where
-  pub right : lending_of (seen lent) card.registers.groups ≡ Right
-  pub command : frame_of frame ≡ Command index argument
+  pub right : lending_of (seen lent) card.registers.groups ≡ Ok tt
+  pub command : frame_of frame ≡ Ok (as_command index argument)
 
 -- a card takes a command as document 01 has it: in MMC mode, and not where "CMD0 comes with its select line low"
 pub record InMmc (card : Card) (selected : Bool) (index : ℕ) : Type 0 where
@@ -98,6 +95,6 @@ pub record InMmc (card : Card) (selected : Bool) (index : ℕ) : Type 0 where
 
 -- a frame whose command leaves this, and that changes no lent byte
 pub record Unlent (card : Card) (wins selected : Bool) (frame : List ℕ) (lent : Lent) (out : List ℕ) (heard : Heard) : Type 0 where
-  pub step : step_of card (Frame wins selected) frame (seen lent) (length out) ≡ replied (hearing card heard) Done heard.sent
+  pub step : step_of card (Frame wins selected) frame (seen lent) (length out) ≡ replied (hearing card heard) (Ok None) heard.sent
   pub lent_kept : lent_after card (Frame wins selected) frame lent ≡ lent
   pub output_kept : output_of card (Frame wins selected) lent out ≡ out

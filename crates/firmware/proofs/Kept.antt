@@ -12,6 +12,7 @@ use Prim.Native.Nat.{ℕ}
 use borrow.Author.Tests.{eqb-true}
 use lib.Dec.{eqb}
 use lib.ListN.{get_or, set}
+use Rattle.firmware.specs.Numbers.{number_told}
 use Rattle.base.proofs.Cases.{cases, picked, never, opposite}
 use Rattle.card_blocks.proofs.Outcomes.{wrong_length_lem, wrong_crc, past_end, protected, failed, InOutcome, unreads, refuses, stores, grants, forces, OutOutcome, unsends, past, across, sends, block_outcome, out_outcome}
 use Rattle.card_blocks.specs.BlockIn.{block_refused, block_good, block_judged}
@@ -26,12 +27,12 @@ use Rattle.crossing.specs.Record.{state_of, link_of, mode_of, lock_of, registers
 use Rattle.lock.specs.Passwords.{powered_of}
 use Rattle.states.specs.declared.State.{State}
 use Rattle.store.specs.Lent.{Seen}
-use Rattle.firmware.specs.Answers.{outcome_number, leaves_record, worked_number}
+use Rattle.firmware.specs.Answers.{leaves_record, worked_number}
 
 module _ (card : Card) where
   -- a step that answers a number that changes nothing has left the record
   abbrev pub Stays : Stepped → Type 0
-  Stays stepped = leaves_record (outcome_number stepped.reply.outcome) ≡ true → stepped.card ≡ card
+  Stays stepped = leaves_record (number_told stepped.reply.outcome) ≡ true → stepped.card ≡ card
 
   -- ---- a block in: the registers are as they were
   abbrev pub InKept : Card → Type 0

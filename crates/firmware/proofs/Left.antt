@@ -11,6 +11,7 @@ use mathlib.Core.List.{List, ◌++◌}
 use Prim.Native.Nat.{ℕ}
 use lib.Dec.{eqb}
 use lib.ListN.{length, drop, set}
+use Rattle.firmware.specs.Numbers.{number_told}
 use Rattle.base.proofs.Cases.{guarded, clash}
 use Rattle.base.specs.Choice.{unless}
 use Rattle.base.specs.Refusals.{number_of, by}
@@ -18,8 +19,6 @@ use Rattle.base.specs.declared.Refusal.{Refusal}
 use Rattle.card.specs.Frame.{FrameJudged, frame_refused, commanded, framed, frame_judged, spared_told, skip_told, spares, frame_told, changed, changed_by, command_heard}
 use Rattle.card_blocks.specs.Replies.{replied}
 use Rattle.card.specs.declared.Answered.{Answered}
-use Rattle.card_blocks.specs.declared.Outcome.{Outcome}
-use Rattle.card_blocks.specs.declared.Outcome.TheVariants.{Done, Refused as NotDone}
 use Rattle.card_blocks.specs.declared.Stepped.{Stepped}
 use Rattle.command.specs.Command.{met_by}
 use Rattle.command.specs.declared.Change.{Change}
@@ -36,35 +35,33 @@ use Rattle.spi.proofs.Laws.{damage_unchanged, damage_keeps_mode, damage_errors}
 use Rattle.spi.specs.Hearing.{heard_of, crc_passes, damaged_of}
 use Rattle.spi.specs.declared.Heard.{Heard}
 use Rattle.store.specs.Lent.{Lent, Seen, seen, lent_right, lending_of, once_lent}
-use Rattle.store.specs.declared.Lending.{Lending}
-use Rattle.store.specs.declared.Lending.TheVariants.{Right, Refused}
-use Rattle.wire.specs.Frames.{field, fields_of, framing_of}
-use Rattle.wire.specs.declared.Framing.{Framing}
-use Rattle.wire.specs.declared.Framing.TheVariants.{Framed, Unframed}
-use Rattle.firmware.specs.Answers.{outcome_number, met_at, byte_sent, leaves_record, frame_numbers, fronted}
+use Rattle.wire.specs.Frames.{field, fields_of, framing_of, as_fields}
+use Rattle.firmware.specs.Answers.{met_at, byte_sent, leaves_record, frame_numbers, fronted}
 use Rattle.firmware.proofs.Sends.{damaged_byte}
 use Rattle.firmware.proofs.Told.{frame_left, linked}
+use Rattle.std.specs.Prelude.{Result, Option, Ok, Err, None}
+use Rattle.wire.specs.declared.Fields.{Fields}
 
-abbrev Unlent : Refusal → Lending → Type 0
-Unlent refusal lending = lending ≡ Refused refusal → leaves_record (number_of refusal) ≡ true
+abbrev Unlent : Refusal → Result Unit Refusal → Type 0
+Unlent refusal lending = lending ≡ Err refusal → leaves_record (number_of refusal) ≡ true
 
-unlent_by : (of refusal : Refusal) → leaves_record (number_of of) ≡ true → Unlent refusal (Refused of)
+unlent_by : (of refusal : Refusal) → leaves_record (number_of of) ≡ true → Unlent refusal (Err of)
 unlent_by of refusal leaves e =
     let same : refusal ≡ of = cc in
     ap (λ (r : Refusal). leaves_record (number_of r)) same ∙ leaves
 
-pub unlent_leaves : (of : Seen) (groups : ℕ) (refusal : Refusal) → lending_of of groups ≡ Refused refusal → leaves_record (number_of refusal) ≡ true
+pub unlent_leaves : (of : Seen) (groups : ℕ) (refusal : Refusal) → lending_of of groups ≡ Err refusal → leaves_record (number_of refusal) ≡ true
 unlent_leaves of groups refusal = guarded (Unlent refusal) (lent_right of groups) (λ t. unlent_by (by 12) refusal refl) (λ t e. clash cc)
 
-abbrev Unheard : Refusal → Framing → Type 0
-Unheard refusal framing = framing ≡ Unframed refusal → leaves_record (number_of refusal) ≡ true
+abbrev Unheard : Refusal → Result Fields Refusal → Type 0
+Unheard refusal framing = framing ≡ Err refusal → leaves_record (number_of refusal) ≡ true
 
-unheard_by : (of refusal : Refusal) → leaves_record (number_of of) ≡ true → Unheard refusal (Unframed of)
+unheard_by : (of refusal : Refusal) → leaves_record (number_of of) ≡ true → Unheard refusal (Err of)
 unheard_by of refusal leaves e =
     let same : refusal ≡ of = cc in
     ap (λ (r : Refusal). leaves_record (number_of r)) same ∙ leaves
 
-pub unframed_leaves : (frame : List ℕ) (refusal : Refusal) → framing_of frame ≡ Unframed refusal → leaves_record (number_of refusal) ≡ true
+pub unframed_leaves : (frame : List ℕ) (refusal : Refusal) → framing_of frame ≡ Err refusal → leaves_record (number_of refusal) ≡ true
 unfolding framing_of fields_of
 unframed_leaves frame refusal =
     guarded (Unheard refusal) (eqb (length frame) 6) (λ t. unheard_by (by 1) refusal refl)
@@ -79,7 +76,7 @@ module _ (numbers cid csd password : List ℕ) where
   card = card_of numbers cid csd password
 
   -- what is lent is judged by the number of groups, before any record is taken in
-  pub lent_by : (lent : Lent) (groups : ℕ) (lending value : Lending) → groups ≡ groups_of numbers → lending ≡ lending_of (seen lent) groups
+  pub lent_by : (lent : Lent) (groups : ℕ) (lending value : Result Unit Refusal) → groups ≡ groups_of numbers → lending ≡ lending_of (seen lent) groups
       → lending ≡ value → lending_of (seen lent) card.registers.groups ≡ value
   unfolding card_of registers_of
   lent_by lent groups lending value is checked told = ap (lending_of (seen lent)) (sym is) ∙ sym checked ∙ told
@@ -88,7 +85,7 @@ module _ (numbers cid csd password : List ℕ) where
   module _ (wins selected : Bool) (frame : List ℕ) (lent : Lent) where
     abbrev By : Stepped → Lent → ℕ → List ℕ → Lent → List ℕ → List ℕ → ℕ → Type 0
     By stepped left r after now answer told sent =
-        (r ≡ outcome_number stepped.reply.outcome)
+        (r ≡ number_told stepped.reply.outcome)
         × (((after ≡ frame_numbers r stepped.card numbers) × (card_of after cid csd password ≡ stepped.card))
         × ((now ≡ left)
         × ((told ≡ fronted (sent_bytes card.registers stepped.reply.sent) answer) × (sent ≡ length (sent_bytes card.registers stepped.reply.sent)))))
@@ -99,48 +96,48 @@ module _ (numbers cid csd password : List ℕ) where
     abbrev Left : ℕ → List ℕ → Lent → List ℕ → List ℕ → ℕ → Type 0
     Left = Judged (frame_judged card wins selected frame (seen lent))
 
-    judged_by : (lending : Lending) (framing : Framing) → lending_of (seen lent) card.registers.groups ≡ lending → framing_of frame ≡ framing
+    judged_by : (lending : Result Unit Refusal) (framing : Result Fields Refusal) → lending_of (seen lent) card.registers.groups ≡ lending → framing_of frame ≡ framing
         → once_lent lending (frame_refused card) (framed card wins selected framing) ≡ frame_judged card wins selected frame (seen lent)
     unfolding frame_judged
     judged_by lending framing e f =
         sym
-        (ap (λ (l : Lending). once_lent l (frame_refused card) (framed card wins selected (framing_of frame))) e
-        ∙ ap (λ (g : Framing). once_lent lending (frame_refused card) (framed card wins selected g)) f)
+        (ap (λ (l : Result Unit Refusal). once_lent l (frame_refused card) (framed card wins selected (framing_of frame))) e
+        ∙ ap (λ (g : Result Fields Refusal). once_lent lending (frame_refused card) (framed card wins selected g)) f)
 
     refused_by_lem : (refusal : Refusal) (r : ℕ) (answer : List ℕ) → leaves_record (number_of refusal) ≡ true → r ≡ number_of refusal
         → Judged (frame_refused card refusal) r numbers lent answer answer 0
     unfolding sent_bytes
     refused_by_lem refusal r answer leaves e = (e, ((frame_left r card numbers (ap leaves_record e ∙ leaves), refl), (refl, (refl, refl))))
 
-    pub frame_unlent : (refusal : Refusal) (r : ℕ) (answer : List ℕ) → lending_of (seen lent) card.registers.groups ≡ Refused refusal
+    pub frame_unlent : (refusal : Refusal) (r : ℕ) (answer : List ℕ) → lending_of (seen lent) card.registers.groups ≡ Err refusal
         → r ≡ number_of refusal → Left r numbers lent answer answer 0
     frame_unlent refusal r answer e n =
-        subst (λ (j : FrameJudged). Judged j r numbers lent answer answer 0) (judged_by (Refused refusal) (framing_of frame) e refl)
+        subst (λ (j : FrameJudged). Judged j r numbers lent answer answer 0) (judged_by (Err refusal) (framing_of frame) e refl)
         (refused_by_lem refusal r answer (unlent_leaves (seen lent) card.registers.groups refusal e) n)
 
-    pub frame_unframed : (refusal : Refusal) (r : ℕ) (answer : List ℕ) → lending_of (seen lent) card.registers.groups ≡ Right
-        → framing_of frame ≡ Unframed refusal → r ≡ number_of refusal → Left r numbers lent answer answer 0
+    pub frame_unframed : (refusal : Refusal) (r : ℕ) (answer : List ℕ) → lending_of (seen lent) card.registers.groups ≡ Ok tt
+        → framing_of frame ≡ Err refusal → r ≡ number_of refusal → Left r numbers lent answer answer 0
     frame_unframed refusal r answer e f n =
-        subst (λ (j : FrameJudged). Judged j r numbers lent answer answer 0) (judged_by Right (Unframed refusal) e f)
+        subst (λ (j : FrameJudged). Judged j r numbers lent answer answer 0) (judged_by (Ok tt) (Err refusal) e f)
         (refused_by_lem refusal r answer (unframed_leaves frame refusal f) n)
 
     -- the CRC7, where it counts
-    judged_crc : (index argument : ℕ) (right passes : Bool) → lending_of (seen lent) card.registers.groups ≡ Right
-        → framing_of frame ≡ Framed index argument right → crc_passes card.mode index right ≡ passes
-        → unless passes (commanded card (NotDone (by 3)) (damaged_of card.mode selected card.link))
-        (commanded card Done (heard_of card.mode selected card.link (met_by card wins) index argument))
+    judged_crc : (index argument : ℕ) (right passes : Bool) → lending_of (seen lent) card.registers.groups ≡ Ok tt
+        → framing_of frame ≡ Ok (as_fields index argument right) → crc_passes card.mode index right ≡ passes
+        → unless passes (commanded card (Err (by 3)) (damaged_of card.mode selected card.link))
+        (commanded card (Ok None) (heard_of card.mode selected card.link (met_by card wins) index argument))
         ≡ frame_judged card wins selected frame (seen lent)
     judged_crc index argument right passes e f c =
         ap (λ (p : Bool).
-        unless p (commanded card (NotDone (by 3)) (damaged_of card.mode selected card.link))
-        (commanded card Done (heard_of card.mode selected card.link (met_by card wins) index argument))) (sym c)
-        ∙ judged_by Right (Framed index argument right) e f
+        unless p (commanded card (Err (by 3)) (damaged_of card.mode selected card.link))
+        (commanded card (Ok None) (heard_of card.mode selected card.link (met_by card wins) index argument))) (sym c)
+        ∙ judged_by (Ok tt) (Ok (as_fields index argument right)) e f
 
     abbrev damaged : Heard
     damaged = damaged_of (mode_of numbers) selected (link_of numbers)
 
     pub frame_damaged : (index argument : ℕ) (right : Bool) (r : ℕ) (answer told after : List ℕ) (sent : ℕ)
-        → lending_of (seen lent) card.registers.groups ≡ Right → framing_of frame ≡ Framed index argument right
+        → lending_of (seen lent) card.registers.groups ≡ Ok tt → framing_of frame ≡ Ok (as_fields index argument right)
         → crc_passes (mode_of numbers) index right ≡ false → r ≡ 3 → after ≡ set numbers 4 damaged.link.errors.bits
         → link_of after ≡ damaged.link → told ≡ fronted (byte_sent damaged.sent) answer → sent ≡ length (byte_sent damaged.sent) → Left r after lent answer told sent
     unfolding card_of
@@ -151,7 +148,7 @@ module _ (numbers cid csd password : List ℕ) where
         subst (λ (j : FrameJudged). Judged j r after lent answer told sent) (judged_crc index argument right false e f wrong)
         (subst
         (λ (c : Change).
-        By (spared_told (commanded card (NotDone (by 3)) damaged).stepped (spares card (seen lent) c)) (changed_by card c lent) r after lent answer told sent)
+        By (spared_told (commanded card (Err (by 3)) damaged).stepped (spares card (seen lent) c)) (changed_by card c lent) r after lent answer told sent)
         (sym (damage_unchanged (mode_of numbers) selected (link_of numbers))) (
           n,
           (
@@ -166,7 +163,7 @@ module _ (numbers cid csd password : List ℕ) where
           ),
         ))
 
-    spared : (link : Link) (mode : Mode) (outcome : Outcome) (sent : Sent) (skips : Bool)
+    spared : (link : Link) (mode : Mode) (outcome : Result (Option ℕ) Refusal) (sent : Sent) (skips : Bool)
         → replied (with_mode (with_link card (skip_told link skips)) mode) outcome sent
         ≡ spared_told (replied (with_mode (with_link card link) mode) outcome sent) skips
     spared link mode outcome sent true = refl
@@ -176,7 +173,7 @@ module _ (numbers cid csd password : List ℕ) where
     heard index argument = command_heard (mode_of numbers) selected (link_of numbers) (met_at numbers wins) (csd_protects csd) index argument (seen lent)
 
     pub frame_heard : (index argument : ℕ) (right : Bool) (answer told after : List ℕ) (now : Lent) (sent : ℕ)
-        → lending_of (seen lent) card.registers.groups ≡ Right → framing_of frame ≡ Framed index argument right
+        → lending_of (seen lent) card.registers.groups ≡ Ok tt → framing_of frame ≡ Ok (as_fields index argument right)
         → crc_passes (mode_of numbers) index right ≡ true
         → after ≡ link_numbers (heard index argument).link ++ mode_numbers (heard index argument).mode ++ drop 9 numbers
         → (link_of after ≡ (heard index argument).link) × (mode_of after ≡ (heard index argument).mode)
@@ -188,5 +185,5 @@ module _ (numbers cid csd password : List ℕ) where
         let given = heard_of (mode_of numbers) selected (link_of numbers) (met_at numbers wins) index argument in
         subst (λ (j : FrameJudged). Judged j 0 after now answer told sent) (judged_crc index argument right true e f passes)
         (subst (λ (s : Stepped). By s (changed_by card given.change lent) 0 after now answer told sent)
-        (spared given.link given.mode Done given.sent (spares card (seen lent) given.change))
+        (spared given.link given.mode (Ok None) given.sent (spares card (seen lent) given.change))
         (refl, (linked numbers cid csd password (heard index argument).link (heard index argument).mode after is stands, (changes, (bytes, count)))))

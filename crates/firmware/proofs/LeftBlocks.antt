@@ -9,6 +9,7 @@ use mathlib.Core.Bool.{true, false}
 use mathlib.Core.List.{List, ◌++◌}
 use Prim.Native.Nat.{ℕ}
 use lib.ListN.{length, drop}
+use Rattle.firmware.specs.Numbers.{number_told}
 use Rattle.base.specs.Refusals.{number_of}
 use Rattle.base.specs.declared.Refusal.{Refusal}
 use Rattle.card_blocks.specs.BlockIn.{unread, state_judged, block_judged, stored_by}
@@ -22,13 +23,12 @@ use Rattle.card_record.specs.declared.Card.{Card}
 use Rattle.crossing.proofs.Crossing.{link_and_lock_told, own_password}
 use Rattle.crossing.specs.Record.{link_of, mode_of, lock_of, card_of, link_numbers, mode_numbers, lock_numbers}
 use Rattle.store.specs.Lent.{Lent, seen, lending_of, once_lent}
-use Rattle.store.specs.declared.Lending.{Lending}
-use Rattle.store.specs.declared.Lending.TheVariants.{Refused}
-use Rattle.firmware.specs.Answers.{outcome_number, byte_sent, leaves_record, numbers_after, fronted, wrote_of}
+use Rattle.firmware.specs.Answers.{byte_sent, leaves_record, numbers_after, fronted, wrote_of}
 use Rattle.firmware.proofs.Kept.{Stays, InKept, in_kept, in_stays, OutKept, out_kept, out_stays}
 use Rattle.firmware.proofs.Sends.{in_byte}
 use Rattle.firmware.proofs.Told.{lock_front, after_left, after_told, linked}
 use Rattle.firmware.proofs.Left.{unlent_leaves}
+use Rattle.std.specs.Prelude.{Result, Err}
 
 module _ (numbers cid csd password : List ℕ) where
   abbrev card : Card
@@ -42,7 +42,7 @@ module _ (numbers cid csd password : List ℕ) where
 
     abbrev InBy : Stepped → Lent → ℕ → List ℕ → List ℕ → Lent → List ℕ → ℕ → Type 0
     InBy stepped left r after secret now told sent =
-        (r ≡ outcome_number stepped.reply.outcome)
+        (r ≡ number_told stepped.reply.outcome)
         × (((after ≡ numbers_after r (told_in stepped.card) numbers) × (card_of after cid csd secret ≡ stepped.card))
         × ((secret ≡ stepped.card.lock.password)
         × ((now ≡ left)
@@ -59,18 +59,18 @@ module _ (numbers cid csd password : List ℕ) where
     abbrev InLeft : ℕ → List ℕ → List ℕ → Lent → List ℕ → ℕ → Type 0
     InLeft = InBy judged_in.stepped (left_in judged_in)
 
-    pub in_judged : (lending : Lending) → lending_of (seen lent) card.registers.groups ≡ lending
+    pub in_judged : (lending : Result Unit Refusal) → lending_of (seen lent) card.registers.groups ≡ lending
         → once_lent lending (unread card) (state_judged card card.link.state block lent.map) ≡ judged_in
     unfolding block_judged
     in_judged lending e =
-        sym (ap (λ (l : Lending). once_lent l (unread card) (state_judged card card.link.state block lent.map)) e)
+        sym (ap (λ (l : Result Unit Refusal). once_lent l (unread card) (state_judged card card.link.state block lent.map)) e)
 
-    pub in_unlent : (refusal : Refusal) (r : ℕ) → lending_of (seen lent) card.registers.groups ≡ Refused refusal → r ≡ number_of refusal
+    pub in_unlent : (refusal : Refusal) (r : ℕ) → lending_of (seen lent) card.registers.groups ≡ Err refusal → r ≡ number_of refusal
         → InLeft r numbers password lent response 0
     unfolding sent_bytes
     in_unlent refusal r e n =
         let leaves = ap leaves_record n ∙ unlent_leaves (seen lent) card.registers.groups refusal e in
-        subst (λ (j : BlockJudged). InBy j.stepped (left_in j) r numbers password lent response 0) (in_judged (Refused refusal) e)
+        subst (λ (j : BlockJudged). InBy j.stepped (left_in j) r numbers password lent response 0) (in_judged (Err refusal) e)
         (n, ((after_left r (told_in card) numbers leaves, refl), (sym (own_password numbers cid csd password), (refl, (refl, refl)))))
 
     -- the data response, a byte or nothing
@@ -85,7 +85,7 @@ module _ (numbers cid csd password : List ℕ) where
           × (sent ≡ length (sent_bytes card.registers stepped.reply.sent))
       responds = (bytes ∙ ap (λ (l : List ℕ). fronted l response) one_byte, count ∙ ap length one_byte)
 
-      pub in_left : (r : ℕ) (now : Lent) → r ≡ outcome_number stepped.reply.outcome → leaves_record r ≡ true → now ≡ left_in judged_in
+      pub in_left : (r : ℕ) (now : Lent) → r ≡ number_told stepped.reply.outcome → leaves_record r ≡ true → now ≡ left_in judged_in
           → InLeft r numbers password now told sent
       in_left r now n leaves stored =
           let stays = subst (Stays card) (sym same) (in_stays card block (seen lent)) (ap leaves_record (sym n) ∙ leaves) in
@@ -93,7 +93,7 @@ module _ (numbers cid csd password : List ℕ) where
           subst (λ (s : Stepped). InBy s (left_in judged_in) r numbers password now told sent) same
           (n, ((after_left r (told_in stepped.card) numbers leaves, sym stays), (sym secret, (stored, responds))))
 
-      pub in_told : (r : ℕ) (after : List ℕ) (now : Lent) → r ≡ outcome_number stepped.reply.outcome → leaves_record r ≡ false
+      pub in_told : (r : ℕ) (after : List ℕ) (now : Lent) → r ≡ number_told stepped.reply.outcome → leaves_record r ≡ false
           → after ≡ told_in stepped.card ++ drop 11 numbers
           → (link_of after ≡ stepped.card.link) × (mode_of after ≡ stepped.card.mode)
           × (lock_of after stepped.card.lock.password ≡ stepped.card.lock) → now ≡ left_in judged_in
@@ -115,7 +115,7 @@ module _ (numbers cid csd password : List ℕ) where
   module _ (lent : Lent) (out : List ℕ) where
     abbrev OutBy : Stepped → List ℕ → ℕ → List ℕ → List ℕ → ℕ → Type 0
     OutBy stepped left r after now written =
-        (r ≡ outcome_number stepped.reply.outcome)
+        (r ≡ number_told stepped.reply.outcome)
         × (((after ≡ numbers_after r (link_numbers stepped.card.link ++ mode_numbers stepped.card.mode) numbers) × (card_of after cid csd password ≡ stepped.card))
         × ((now ≡ left) × (written ≡ wrote_of stepped.reply.outcome)))
 
@@ -125,21 +125,21 @@ module _ (numbers cid csd password : List ℕ) where
     abbrev OutLeft : ℕ → List ℕ → List ℕ → ℕ → Type 0
     OutLeft = OutBy judged_out.stepped (sent_out card lent judged_out.sending out)
 
-    pub out_judged_lem : (lending : Lending) → lending_of (seen lent) card.registers.groups ≡ lending
+    pub out_judged_lem : (lending : Result Unit Refusal) → lending_of (seen lent) card.registers.groups ≡ lending
         → once_lent lending (unsent card) (state_sends card card.link.state (length out)) ≡ judged_out
     unfolding out_judged
-    out_judged_lem lending e = sym (ap (λ (l : Lending). once_lent l (unsent card) (state_sends card card.link.state (length out))) e)
+    out_judged_lem lending e = sym (ap (λ (l : Result Unit Refusal). once_lent l (unsent card) (state_sends card card.link.state (length out))) e)
 
-    pub out_unlent : (refusal : Refusal) (r : ℕ) → lending_of (seen lent) card.registers.groups ≡ Refused refusal → r ≡ number_of refusal
+    pub out_unlent : (refusal : Refusal) (r : ℕ) → lending_of (seen lent) card.registers.groups ≡ Err refusal → r ≡ number_of refusal
         → OutLeft r numbers out 0
     unfolding sent_out
     out_unlent refusal r e n =
         let leaves = ap leaves_record n ∙ unlent_leaves (seen lent) card.registers.groups refusal e in
-        subst (λ (j : OutJudged). OutBy j.stepped (sent_out card lent j.sending out) r numbers out 0) (out_judged_lem (Refused refusal) e)
+        subst (λ (j : OutJudged). OutBy j.stepped (sent_out card lent j.sending out) r numbers out 0) (out_judged_lem (Err refusal) e)
         (n, ((after_left r (link_numbers card.link ++ mode_numbers card.mode) numbers leaves, refl), (refl, refl)))
 
     pub out_left : (stepped : Stepped) (r : ℕ) (now : List ℕ) (written : ℕ) → stepped ≡ judged_out.stepped
-        → r ≡ outcome_number stepped.reply.outcome → leaves_record r ≡ true → now ≡ sent_out card lent judged_out.sending out
+        → r ≡ number_told stepped.reply.outcome → leaves_record r ≡ true → now ≡ sent_out card lent judged_out.sending out
         → written ≡ wrote_of stepped.reply.outcome → OutLeft r numbers now written
     out_left stepped r now written same n leaves sent count =
         let stays = subst (Stays card) (sym same) (out_stays card (seen lent) (length out)) (ap leaves_record (sym n) ∙ leaves) in
@@ -147,7 +147,7 @@ module _ (numbers cid csd password : List ℕ) where
         (n, ((after_left r (link_numbers stepped.card.link ++ mode_numbers stepped.card.mode) numbers leaves, sym stays), (sent, count)))
 
     pub out_told : (stepped : Stepped) (r : ℕ) (after now : List ℕ) (written : ℕ) → stepped ≡ judged_out.stepped
-        → r ≡ outcome_number stepped.reply.outcome → leaves_record r ≡ false
+        → r ≡ number_told stepped.reply.outcome → leaves_record r ≡ false
         → after ≡ link_numbers stepped.card.link ++ mode_numbers stepped.card.mode ++ drop 9 numbers
         → (link_of after ≡ stepped.card.link) × (mode_of after ≡ stepped.card.mode)
         → now ≡ sent_out card lent judged_out.sending out → written ≡ wrote_of stepped.reply.outcome → OutLeft r after now written

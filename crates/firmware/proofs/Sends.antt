@@ -20,8 +20,6 @@ use Rattle.card_blocks.proofs.Outcomes.{InOutcome, unreads, refuses, stores, gra
 use Rattle.card_blocks.specs.BlockIn.{block_refused, block_good, block_judged}
 use Rattle.card_blocks.specs.Framing.{response_to}
 use Rattle.card_blocks.specs.declared.BlockJudged.{BlockJudged}
-use Rattle.card_blocks.specs.declared.Outcome.{Outcome}
-use Rattle.card_blocks.specs.declared.Outcome.TheVariants.{Done, Wrote, Refused}
 use Rattle.card_record.specs.Sending.{sent_bytes, Sendable}
 use Rattle.card_record.specs.declared.Card.{Card}
 use Rattle.card_record.specs.declared.Link.{Link}
@@ -43,10 +41,12 @@ use Rattle.spi_moves.specs.Moves.{row_of, move_of}
 use Rattle.states.specs.States.{column_of, column_number}
 use Rattle.status.specs.declared.Errors.{Errors}
 use Rattle.store.specs.Lent.{Seen}
-use Rattle.wire.specs.Frames.{field, fields_of, framing_of}
-use Rattle.wire.specs.declared.Framing.{Framing}
-use Rattle.wire.specs.declared.Framing.TheVariants.{Framed}
+use Rattle.wire.proofs.Told.{fields_told}
+use Rattle.wire.specs.Frames.{field, fields_of, framing_of, as_fields}
 use Rattle.firmware.specs.Answers.{byte_sent}
+use Rattle.std.specs.Prelude.{Result, Option, Ok, Err, Some, None}
+use Rattle.base.specs.declared.Refusal.{Refusal}
+use Rattle.wire.specs.declared.Fields.{Fields}
 
 -- ---- an index has 6 bits
 index_small : (frame : List ℕ) → length frame ≡ 6 → field (bits frame) 2 6 ≤ 63
@@ -60,13 +60,13 @@ index_small frame six =
     omega (arith, small)
 
 module _ (index argument : ℕ) (right : Bool) where
-  abbrev Indexed : Framing → Type 0
-  Indexed framing = framing ≡ Framed index argument right → index ≤ 63
+  abbrev Indexed : Result Fields Refusal → Type 0
+  Indexed framing = framing ≡ Ok (as_fields index argument right) → index ≤ 63
 
-  index_by : (given word : ℕ) (is : Bool) → given ≤ 63 → Indexed (Framed given word is)
-  index_by given word is small e = let same : given ≡ index = cc in omega (arith, same, small)
+  index_by : (given word : ℕ) (is : Bool) → given ≤ 63 → Indexed (Ok (as_fields given word is))
+  index_by given word is small e = let same = ap (λ (f : Fields). f.index) (fields_told e) in omega (arith, same, small)
 
-  pub framed_index : (frame : List ℕ) → framing_of frame ≡ Framed index argument right → index ≤ 63
+  pub framed_index : (frame : List ℕ) → framing_of frame ≡ Ok (as_fields index argument right) → index ≤ 63
   unfolding framing_of fields_of
   framed_index frame =
       guarded Indexed (eqb (length frame) 6) (λ t e. clash cc)
@@ -112,20 +112,20 @@ module _ (registers : Registers) where
       picked (λ (h : Heard). OneByte h.sent) (selected && not (eqb (column_number (column_of link.state)) 9)) (λ low. refl) (λ low. refl))
       (λ here. refl)
 
-  response_byte : (spi : Bool) (outcome : Outcome) → OneByte (response_to spi outcome)
+  response_byte : (spi : Bool) (outcome : Result (Option ℕ) Refusal) → OneByte (response_to spi outcome)
   unfolding sent_bytes
-  response_byte spi Done = picked OneByte spi (λ t. refl) (λ t. refl)
-  response_byte spi (Wrote n) = refl
-  response_byte spi (Refused refusal) = picked OneByte (spi && eqb (number_of refusal) 17) (λ t. refl) (λ t. refl)
+  response_byte spi (Ok None) = picked OneByte spi (λ t. refl) (λ t. refl)
+  response_byte spi (Ok (Some n)) = refl
+  response_byte spi (Err refusal) = picked OneByte (spi && eqb (number_of refusal) 17) (λ t. refl) (λ t. refl)
 
   in_outcome : (card : Card) (block : List ℕ) (of : Seen) {judged : BlockJudged} → InOutcome card block of judged
       → OneByte judged.stepped.reply.sent
   unfolding block_refused block_good sent_bytes
   in_outcome card block of (unreads n listed) = refl
-  in_outcome card block of (refuses incoming refusal fault on why) = response_byte card.mode.spi (Refused refusal)
-  in_outcome card block of (stores incoming at w on storable) = response_byte card.mode.spi Done
-  in_outcome card block of (grants on asked) = response_byte card.mode.spi Done
-  in_outcome card block of (forces on asked) = response_byte card.mode.spi Done
+  in_outcome card block of (refuses incoming refusal fault on why) = response_byte card.mode.spi (Err refusal)
+  in_outcome card block of (stores incoming at w on storable) = response_byte card.mode.spi (Ok None)
+  in_outcome card block of (grants on asked) = response_byte card.mode.spi (Ok None)
+  in_outcome card block of (forces on asked) = response_byte card.mode.spi (Ok None)
 
   pub in_byte : (card : Card) (block : List ℕ) (of : Seen) → OneByte (block_judged card block of).stepped.reply.sent
   in_byte card block of = in_outcome card block of (block_outcome card block of)

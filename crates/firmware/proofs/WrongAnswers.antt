@@ -39,11 +39,9 @@ use native.Mathlib.Omega.{arith}
 use lib.ListN.{length, get_or, replicate}
 use Rattle.base.proofs.Cases.{never}
 use Rattle.base.specs.Refusals.{by}
-use Rattle.base.specs.declared.Written.TheVariants.{Bytes, Refused as NotWritten}
 use Rattle.card_blocks.specs.BlockIn.{block_good, request_judged, checked_judged, awaited_judged, block_judged}
 use Rattle.card_blocks.specs.BlockOut.{out_good, bytes_judged, out_judged}
 use Rattle.card_blocks.specs.Framing.{response_to}
-use Rattle.card_blocks.specs.declared.Outcome.TheVariants.{Wrote, Refused as Unsent}
 use Rattle.command.specs.Command.{damaged_link}
 use Rattle.crc.specs.Bits.{bits}
 use Rattle.crc.specs.Crc.{divide, remainder, check_sum, crc7, crc16}
@@ -60,27 +58,27 @@ use Rattle.spi_moves.specs.Moves.{row_of, move_of}
 use Rattle.store.specs.Lent.{seen_of}
 use Rattle.store.specs.Map.{entries_right}
 use Rattle.wire.specs.Blocks.{block_of}
-use Rattle.wire.specs.declared.Checked.TheVariants.{Refused as NotChecked}
-use Rattle.wire.specs.declared.Frame.TheVariants.{Command, Refused}
-use Rattle.firmware.specs.Answers.{outcome_number, met_at, byte_sent, fronted, numbers_after, frame_numbers, worked_number, won_by, selected_by, wrote_of}
-use Rattle.firmware.specs.Numbers.{written_number, checked_number, index_read, argument_read}
+use Rattle.firmware.specs.Answers.{met_at, byte_sent, fronted, numbers_after, frame_numbers, worked_number, won_by, selected_by, wrote_of}
+use Rattle.firmware.specs.Numbers.{number_told, index_read, argument_read}
+use Rattle.std.specs.Prelude.{Ok, Err, Some, Option}
+use Rattle.wire.specs.Frames.{as_command}
 
-index_not_told : index_read (Command 17 0x12345) 0 ≡ 0 → ⊥
+index_not_told : index_read (Ok (as_command 17 0x12345)) 0 ≡ 0 → ⊥
 index_not_told e = omega arith
 
-index_cleared : index_read (Refused (by 3)) 17 ≡ 0 → ⊥
+index_cleared : index_read (Err (by 3)) 17 ≡ 0 → ⊥
 index_cleared e = omega arith
 
-argument_cleared : argument_read (Refused (by 3)) 0x12345 ≡ 0 → ⊥
+argument_cleared : argument_read (Err (by 3)) 0x12345 ≡ 0 → ⊥
 argument_cleared e = omega arith
 
-done_told_as_refused : written_number (Bytes 6) ≡ 6 → ⊥
+done_told_as_refused : number_told {A = ℕ} (Ok 6) ≡ 6 → ⊥
 done_told_as_refused e = omega arith
 
-refused_told_as_done : written_number (NotWritten (by 6)) ≡ 0 → ⊥
+refused_told_as_done : number_told {A = ℕ} (Err (by 6)) ≡ 0 → ⊥
 refused_told_as_done e = omega arith
 
-checked_told_as_good : checked_number (NotChecked (by 17)) ≡ 0 → ⊥
+checked_told_as_good : number_told {A = ℕ} (Err (by 17)) ≡ 0 → ⊥
 checked_told_as_good e = omega arith
 
 -- ---- the sums
@@ -131,10 +129,10 @@ worked_dis e = omega arith
 worked_rewritten : worked_number 99 ≡ 13 → ⊥
 worked_rewritten e = omega arith
 
-refused_told_bytes : wrote_of (Unsent (by 18)) ≡ 514 → ⊥
+refused_told_bytes : wrote_of (Err (by 18)) ≡ 514 → ⊥
 refused_told_bytes e = omega arith
 
-sent_told_as_refused : outcome_number (Wrote 6) ≡ 6 → ⊥
+sent_told_as_refused : number_told {A = Option ℕ} (Ok (Some 6)) ≡ 6 → ⊥
 sent_told_as_refused e = omega arith
 
 -- a lock request of three bytes at a card with no password: set one of one byte, 9
@@ -189,8 +187,8 @@ damage_unanswered : length (byte_sent (damaged_of (record { spi = true; checks =
 unfolding damaged_of faulted answered_in fresh_link
 damage_unanswered e = omega arith
 
-response_untold : length (byte_sent (response_to true (Unsent (by 17)))) ≡ 0 → ⊥
+response_untold : length (byte_sent (response_to true (Err (by 17)))) ≡ 0 → ⊥
 response_untold e = omega arith
 
-response_for_length : length (byte_sent (response_to true (Unsent (by 16)))) ≡ 1 → ⊥
+response_for_length : length (byte_sent (response_to true (Err (by 16)))) ≡ 1 → ⊥
 response_for_length e = omega arith

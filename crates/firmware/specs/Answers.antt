@@ -1,24 +1,14 @@
 -- What a call at a card tells C: its number, the thirteen numbers of the record, and how many bytes it wrote.
 -- Assumes nothing.
-use Rattle.std.specs.Prelude.{Bool, not, List, [], ◌∷◌, ◌++◌, ℕ, eqb, length, drop, get_or, set}
+use Rattle.std.specs.Prelude.{Bool, not, List, [], ◌∷◌, ◌++◌, ℕ, eqb, length, drop, get_or, set, Result, Option, Ok, Err, Some, None}
 use Rattle.base.specs.Choice.{pick}
-use Rattle.base.specs.Refusals.{number_of}
-use Rattle.card_blocks.specs.declared.Outcome.{Outcome}
-use Rattle.card_blocks.specs.declared.Outcome.TheVariants.{Done, Wrote, Refused}
 use Rattle.card_record.specs.declared.Card.{Card}
-use Rattle.card_record.specs.declared.Making.{Making}
-use Rattle.card_record.specs.declared.Making.TheVariants.{Done as Made, Refused as NotMade}
 use Rattle.card_record.specs.declared.Sent.{Sent}
 use Rattle.card_record.specs.declared.Sent.TheVariants.{Nothing, Status, Cid, Csd, Ocr, SpiR1, SpiR2, SpiR3, DataResponse}
 use Rattle.command.specs.declared.Met.{Met}
 use Rattle.crossing.specs.Record.{groups_of, locked_of, link_numbers, mode_numbers}
 use Rattle.moves.specs.Indices.{among}
-
--- 0 for a call that was carried out, else the number of its refusal
-abbrev pub outcome_number : Outcome → ℕ
-outcome_number Done = 0
-outcome_number (Wrote n) = 0
-outcome_number (Refused refusal) = number_of refusal
+use Rattle.base.specs.declared.Refusal.{Refusal}
 
 -- what C says of the line: 0 that the unit lost it, any other number that it won
 abbrev pub won_by : ℕ → Bool
@@ -58,15 +48,11 @@ frame_numbers number next before =
 abbrev pub worked_number : ℕ → ℕ
 worked_number number = pick (eqb number 11) 4 (pick (eqb number 12) 3 number)
 
-abbrev pub making_number : Making → ℕ
-making_number Made = 0
-making_number (NotMade refusal) = number_of refusal
-
 -- how many bytes a block out wrote
-abbrev pub wrote_of : Outcome → ℕ
-wrote_of Done = 0
-wrote_of (Wrote n) = n
-wrote_of (Refused refusal) = 0
+abbrev pub wrote_of : Result (Option ℕ) Refusal → ℕ
+wrote_of (Ok None) = 0
+wrote_of (Ok (Some n)) = n
+wrote_of (Err refusal) = 0
 
 -- the byte of an answer that has one alone, in SPI: R1 "as one byte", and "data responses"
 abbrev pub byte_sent : Sent → List ℕ

@@ -1,32 +1,20 @@
 -- Document 01, "Refusal numbers", as C is told them: 0 for a call that was carried out, else the number of its refusal.
 -- Assumes nothing.
-use Rattle.std.specs.Prelude.{ℕ}
+use Rattle.std.specs.Prelude.{ℕ, Result, Ok, Err}
 use Rattle.base.specs.Refusals.{number_of}
-use Rattle.base.specs.declared.Written.{Written}
-use Rattle.base.specs.declared.Written.TheVariants.{Bytes, Refused as NotWritten}
-use Rattle.wire.specs.declared.Checked.{Checked}
-use Rattle.wire.specs.declared.Checked.TheVariants.{Payload, Refused as NotChecked}
-use Rattle.wire.specs.declared.Frame.{Frame}
-use Rattle.wire.specs.declared.Frame.TheVariants.{Command, Refused}
+use Rattle.base.specs.declared.Refusal.{Refusal}
+use Rattle.wire.specs.declared.Command.{Command}
 
-abbrev pub frame_number : Frame → ℕ
-frame_number (Command index argument) = 0
-frame_number (Refused refusal) = number_of refusal
-
-abbrev pub written_number : Written → ℕ
-written_number (Bytes n) = 0
-written_number (NotWritten refusal) = number_of refusal
-
-abbrev pub checked_number : Checked → ℕ
-checked_number (Payload n) = 0
-checked_number (NotChecked refusal) = number_of refusal
+abbrev pub number_told : {A : Type 0} → Result A Refusal → ℕ
+number_told (Ok given) = 0
+number_told (Err refusal) = number_of refusal
 
 -- the lent index after a frame was read: the command's, or what it held before
-abbrev pub index_read : Frame → ℕ → ℕ
-index_read (Command index argument) before = index
-index_read (Refused refusal) before = before
+abbrev pub index_read : Result Command Refusal → ℕ → ℕ
+index_read (Ok command) before = command.index
+index_read (Err refusal) before = before
 
 -- the lent argument likewise
-abbrev pub argument_read : Frame → ℕ → ℕ
-argument_read (Command index argument) before = argument
-argument_read (Refused refusal) before = before
+abbrev pub argument_read : Result Command Refusal → ℕ → ℕ
+argument_read (Ok command) before = command.argument
+argument_read (Err refusal) before = before

@@ -1,62 +1,38 @@
 // What a call at a card tells C beside the record.
+ghost use Rattle.firmware.specs.Numbers.{number_told};
 ghost use Rattle.std.specs.Prelude.{◌≡◌, ◌≤◌, length};
-ghost use Rattle.firmware.specs.Answers.{outcome_number, making_number, leaves_record, byte_sent, fronted, wrote_of};
+ghost use Rattle.firmware.specs.Answers.{leaves_record, byte_sent, fronted, wrote_of};
 
-use card_blocks::Outcome;
-use card_record::{Making, Sent};
+use base::Refusal;
+use card_record::Sent;
 
-// The number of what became of a call.
-pub fn outcome_number(outcome: Outcome) -> u8
-    ensures answer { result ≡ outcome_number outcome }
+// The number of what became of a call, whatever a call that was carried out gives.
+pub fn number_told<T: Copy>(answer: Result<T, Refusal>) -> u8
+    ensures answer { result ≡ number_told answer }
 {
-    match outcome {
-        Outcome::Done => 0,
-        Outcome::Wrote(_) => 0,
-        Outcome::Refused(refusal) => base::number(refusal),
+    match answer {
+        Ok(_) => 0,
+        Err(refusal) => base::number(refusal),
     }
 }
 
 // Whether a call that answers this number has left the record as it was: its numbers are then left,
 // too, also where they are wider than their fields or stand for nothing.
+// It is asked by number, as `leaves_record` of specs/ and mmc.h have it.
 pub fn leaves_record(number: u8) -> bool
     ensures answer { result ≡ leaves_record number }
 {
-    if number == 1 {
-        return true;
-    }
-    if number == 2 {
-        return true;
-    }
-    if number == 6 {
-        return true;
-    }
-    if number == 12 {
-        return true;
-    }
-    if number == 15 {
-        return true;
-    }
-    false
-}
-
-// The number of what became of a make.
-pub fn making_number(making: Making) -> u8
-    ensures answer { result ≡ making_number making }
-{
-    match making {
-        Making::Done => 0,
-        Making::Refused(refusal) => base::number(refusal),
-    }
+    matches!(number, 1 | 2 | 6 | 12 | 15)
 }
 
 // How many bytes a block out wrote.
-pub fn wrote(outcome: Outcome) -> usize
+pub fn wrote(outcome: Result<Option<usize>, Refusal>) -> usize
     ensures answer { result ≡ wrote_of outcome }
 {
     match outcome {
-        Outcome::Done => 0,
-        Outcome::Wrote(n) => n,
-        Outcome::Refused(_) => 0,
+        Ok(None) => 0,
+        Ok(Some(n)) => n,
+        Err(_) => 0,
     }
 }
 
@@ -68,20 +44,10 @@ pub fn send_byte(sent: Sent, out: &mut [u8]) -> usize
     ensures output { out.new ≡ fronted (byte_sent sent) out.old }
 {
     match sent {
-        Sent::Nothing => 0,
-        Sent::Status { .. } => 0,
-        Sent::Cid => 0,
-        Sent::Csd => 0,
-        Sent::Ocr => 0,
-        Sent::SpiR1(first) => {
-            out[0] = first;
+        Sent::SpiR1(byte) | Sent::DataResponse(byte) => {
+            out[0] = byte;
             1
         }
-        Sent::SpiR2 { .. } => 0,
-        Sent::SpiR3(_) => 0,
-        Sent::DataResponse(response) => {
-            out[0] = response;
-            1
-        }
+        _ => 0,
     }
 }

@@ -1,6 +1,7 @@
 // Blocks at a card, for C. What is lent is judged on the numbers as they are, and then the record is
 // taken in. A block out changes the link alone, a block in the lock too. The mode is told with the link,
 // and nothing else.
+ghost use Rattle.firmware.specs.Numbers.{number_told};
 ghost use Rattle.std.specs.Prelude.{◌++◌, ◌≡◌, length};
 ghost use Rattle.card_blocks.specs.BlockIn.{block_judged};
 ghost use Rattle.card_blocks.specs.BlockOut.{out_judged};
@@ -9,11 +10,11 @@ ghost use Rattle.card.specs.declared.Call.TheVariants.{BlockIn, BlockOut};
 ghost use Rattle.card_record.specs.Sending.{sent_bytes};
 ghost use Rattle.crossing.specs.Record.{card_of, link_numbers, mode_numbers, lock_numbers};
 ghost use Rattle.store.specs.Lent.{lent_of, seen};
-ghost use Rattle.firmware.specs.Answers.{outcome_number, numbers_after, fronted, wrote_of};
+ghost use Rattle.firmware.specs.Answers.{numbers_after, fronted, wrote_of};
 
-use crate::answers::{leaves_record, outcome_number, send_byte, wrote};
+use crate::answers::{leaves_record, number_told, send_byte, wrote};
+use card_blocks::Lending;
 use crossing::{card_of, groups_of, tell_link, tell_link_and_lock};
-use store::Lending;
 
 // A block in: 12, 15, 16, 17, 18, 19 or 20. Only this call may change the password. The data response
 // that follows it in SPI goes to `response`, and how many bytes that is to `sent`.
@@ -32,7 +33,7 @@ pub extern "C" fn mmc_parts_block_in(
     ensures answer { let card = card_of numbers.old cid.now csd.now password.old in
         let lent = lent_of memory.old map.old in
         let stepped = (block_judged card block.now (seen lent)).stepped in
-        result ≡ outcome_number stepped.reply.outcome }
+        result ≡ number_told stepped.reply.outcome }
     ensures numbers { let card = card_of numbers.old cid.now csd.now password.old in
         let lent = lent_of memory.old map.old in
         let stepped = (block_judged card block.now (seen lent)).stepped in
@@ -56,17 +57,18 @@ pub extern "C" fn mmc_parts_block_in(
     *sent = 0;
     let lending = store::lent_check(memory.len(), map, groups_of(*numbers) as usize);
     match lending {
-        Lending::Right => {}
-        Lending::Refused(refusal) => return base::number(refusal),
+        Ok(()) => {}
+        Err(refusal) => return base::number(refusal),
     }
     let card = card_of(*numbers, *cid, *csd, *password);
-    let stepped = card_blocks::taken_in(card, block, memory, map);
+    let stepped = card_blocks::taken_in(card, block, &mut Lending { memory, map });
+    // Each part has a name, since fields read through `stepped` where they are told cost 222 bytes of code.
     let next = stepped.card;
     let reply = stepped.reply;
     let outcome = reply.outcome;
     let responded = reply.sent;
     *sent = send_byte(responded, response);
-    let number = outcome_number(outcome);
+    let number = number_told(outcome);
     if leaves_record(number) {
         return number;
     }
@@ -95,7 +97,7 @@ pub extern "C" fn mmc_parts_block_out(
     ensures answer { let card = card_of numbers.old cid.now csd.now password.now in
         let lent = lent_of memory.now map.now in
         let stepped = (out_judged card (seen lent) (length out.old)).stepped in
-        result ≡ outcome_number stepped.reply.outcome }
+        result ≡ number_told stepped.reply.outcome }
     ensures numbers { let card = card_of numbers.old cid.now csd.now password.now in
         let lent = lent_of memory.now map.now in
         let stepped = (out_judged card (seen lent) (length out.old)).stepped in
@@ -112,21 +114,16 @@ pub extern "C" fn mmc_parts_block_out(
     *written = 0;
     let lending = store::lent_check(memory.len(), map, groups_of(*numbers) as usize);
     match lending {
-        Lending::Right => {}
-        Lending::Refused(refusal) => return base::number(refusal),
+        Ok(()) => {}
+        Err(refusal) => return base::number(refusal),
     }
     let card = card_of(*numbers, *cid, *csd, *password);
     let stepped = card_blocks::given_out(card, memory, map, out);
-    let next = stepped.card;
-    let reply = stepped.reply;
-    let outcome = reply.outcome;
-    *written = wrote(outcome);
-    let number = outcome_number(outcome);
+    *written = wrote(stepped.reply.outcome);
+    let number = number_told(stepped.reply.outcome);
     if leaves_record(number) {
         return number;
     }
-    let link = next.link;
-    let mode = next.mode;
-    tell_link(link, mode, numbers);
+    tell_link(stepped.card.link, stepped.card.mode, numbers);
     number
 }

@@ -1,6 +1,7 @@
 // A frame at a card, for C. What is lent and the framing are judged on the numbers as they are, and of
 // the record only the link and the mode then cross: no frame changes the lock or the registers, and a
 // damaged one nothing but the error bits.
+ghost use Rattle.firmware.specs.Numbers.{number_told};
 ghost use Rattle.std.specs.Prelude.{◌++◌, ◌≡◌, ◌≤◌, length, drop, set};
 ghost use Rattle.card.specs.Frame.{changed, frame_stepped, command_heard};
 ghost use Rattle.card.specs.Step.{lent_after};
@@ -10,17 +11,18 @@ ghost use Rattle.card_record.specs.Sending.{sent_bytes, Sendable};
 ghost use Rattle.crossing.specs.Record.{card_of, link_of, link_numbers, mode_of, mode_numbers, registers_of};
 ghost use Rattle.spi.specs.Hearing.{heard_of, damaged_of};
 ghost use Rattle.store.specs.Lent.{lent_of, seen};
-ghost use Rattle.firmware.specs.Answers.{outcome_number, met_at, byte_sent, frame_numbers, won_by, selected_by, fronted};
+ghost use Rattle.firmware.specs.Answers.{met_at, byte_sent, frame_numbers, won_by, selected_by, fronted};
 
 use crate::answers::send_byte;
-use base::{Refusal, Written};
+use base::Refusal;
+use card_blocks::Lending;
 use card_record::{Registers, Sent};
 use command::Met;
 use crossing::{groups_of, link_of, locked_of, mode_of, registers_of, tell_errors, tell_link};
-use store::Lending;
-use wire::Framing;
+use wire::{Command, Fields};
 
-// What a command meets beside the link, at the card that the numbers stand for.
+// What a command meets beside the link, at the card that the numbers stand for: `command::met_by` of
+// C's numbers, which never become a card.
 fn met_of(numbers: [u32; 13], wins: bool) -> Met
     ensures { result ≡ met_at numbers wins }
 {
@@ -45,11 +47,8 @@ fn tell_damaged(numbers: &mut [u32; 13], selected: bool, answer: &mut [u8; 17]) 
     let mode = mode_of(*numbers);
     let link = link_of(*numbers);
     let damaged = spi::damaged(mode, selected, link);
-    let next = damaged.link;
-    let errors = next.errors;
-    let sent = damaged.sent;
-    tell_errors(errors, numbers);
-    send_byte(sent, answer)
+    tell_errors(damaged.link.errors, numbers);
+    send_byte(damaged.sent, answer)
 }
 
 // What a card sends, written to the front of an answer: the longest fits. The answer is how many
@@ -61,8 +60,8 @@ fn send(registers: Registers, sent: Sent, out: &mut [u8; 17]) -> usize
 {
     let written = card_record::write_sent(registers, sent, out);
     match written {
-        Written::Bytes(n) => n,
-        Written::Refused(_) => 0,
+        Ok(n) => n,
+        Err(_) => 0,
     }
 }
 
@@ -74,19 +73,18 @@ fn hear(
     csd: &[u8; 16],
     wins: bool,
     selected: bool,
-    index: u8,
-    argument: u32,
+    command: Command,
     memory: &mut [u8],
     map: &mut [u8],
     answer: &mut [u8; 17],
 ) -> usize
-    requires { index ≤ 63 }
+    requires { command.index ≤ 63 }
     ensures answer { let mode = mode_of numbers.old in
         let link = link_of numbers.old in
         let met = met_at numbers.old wins in
         let whole = csd_protects csd.now in
         let lent = lent_of memory.old map.old in
-        let heard = command_heard mode selected link met whole index argument (seen lent) in
+        let heard = command_heard mode selected link met whole command.index command.argument (seen lent) in
         let bytes = sent_bytes (registers_of numbers.old cid.now csd.now) heard.sent in
         result ≡ length bytes }
     ensures numbers { let mode = mode_of numbers.old in
@@ -94,7 +92,7 @@ fn hear(
         let met = met_at numbers.old wins in
         let whole = csd_protects csd.now in
         let lent = lent_of memory.old map.old in
-        let heard = command_heard mode selected link met whole index argument (seen lent) in
+        let heard = command_heard mode selected link met whole command.index command.argument (seen lent) in
         (numbers.new ≡ link_numbers heard.link ++ mode_numbers heard.mode ++ drop 9 numbers.old)
         × ((link_of numbers.new ≡ heard.link) × (mode_of numbers.new ≡ heard.mode)) }
     ensures lent { let mode = mode_of numbers.old in
@@ -102,13 +100,13 @@ fn hear(
         let met = met_at numbers.old wins in
         let whole = csd_protects csd.now in
         let lent = lent_of memory.old map.old in
-        lent_of memory.new map.new ≡ changed link.tags whole (heard_of mode selected link met index argument).change lent }
+        lent_of memory.new map.new ≡ changed link.tags whole (heard_of mode selected link met command.index command.argument).change lent }
     ensures sent { let mode = mode_of numbers.old in
         let link = link_of numbers.old in
         let met = met_at numbers.old wins in
         let whole = csd_protects csd.now in
         let lent = lent_of memory.old map.old in
-        let heard = command_heard mode selected link met whole index argument (seen lent) in
+        let heard = command_heard mode selected link met whole command.index command.argument (seen lent) in
         let bytes = sent_bytes (registers_of numbers.old cid.now csd.now) heard.sent in
         answer.new ≡ fronted bytes answer.old }
 {
@@ -116,15 +114,11 @@ fn hear(
     let link = link_of(*numbers);
     let met = met_of(*numbers, wins);
     let whole = card_record::csd_protects(*csd);
-    let heard = card::heard(
-        mode, selected, link, met, whole, index, argument, memory, map,
-    );
-    let next = heard.link;
-    let after = heard.mode;
-    let sent = heard.sent;
-    tell_link(next, after, numbers);
+    let lent = &mut Lending { memory, map };
+    let heard = card::heard(mode, selected, link, met, whole, command, lent);
+    tell_link(heard.link, heard.mode, numbers);
     let registers = registers_of(*numbers, *cid, *csd);
-    send(registers, sent, answer)
+    send(registers, heard.sent, answer)
 }
 
 // A frame: 12, 1, 2, 3. `won` says whether the unit won the line, as a unit that is alone on its line
@@ -148,7 +142,7 @@ pub extern "C" fn mmc_parts_frame(
     ensures answer { let card = card_of numbers.old cid.now csd.now password.now in
         let lent = lent_of memory.old map.old in
         let stepped = frame_stepped card (won_by won) (selected_by selected) frame.now (seen lent) in
-        result ≡ outcome_number stepped.reply.outcome }
+        result ≡ number_told stepped.reply.outcome }
     ensures numbers { let card = card_of numbers.old cid.now csd.now password.now in
         let lent = lent_of memory.old map.old in
         let stepped = frame_stepped card (won_by won) (selected_by selected) frame.now (seen lent) in
@@ -166,16 +160,18 @@ pub extern "C" fn mmc_parts_frame(
     *sent = 0;
     let lending = store::lent_check(memory.len(), map, groups_of(*numbers) as usize);
     match lending {
-        Lending::Right => {}
-        Lending::Refused(refusal) => return base::number(refusal),
+        Ok(()) => {}
+        Err(refusal) => return base::number(refusal),
     }
     let framing = wire::unframe(frame);
     match framing {
-        Framing::Framed {
-            index,
-            argument,
-            crc_right,
-        } => {
+        Ok(
+            Fields {
+                index,
+                argument,
+                crc_right,
+            },
+        ) => {
             if !spi::crc_passes(mode_of(*numbers), index, crc_right) {
                 *sent = tell_damaged(numbers, selected != 0, answer);
                 return base::number(Refusal::FrameCrc);
@@ -186,14 +182,13 @@ pub extern "C" fn mmc_parts_frame(
                 csd,
                 won != 0,
                 selected != 0,
-                index,
-                argument,
+                Command { index, argument },
                 memory,
                 map,
                 answer,
             );
             0
         }
-        Framing::Unframed(refusal) => base::number(refusal),
+        Err(refusal) => base::number(refusal),
     }
 }

@@ -18,13 +18,12 @@ ghost use Rattle.base.specs.Output.{laid};
 ghost use Rattle.crc.specs.Crc.{crc7, crc16};
 ghost use Rattle.wire.specs.Blocks.{block_of, block_written, checked_of};
 ghost use Rattle.wire.specs.Frames.{command_frame, indexed, frame_of};
-ghost use Rattle.firmware.specs.Numbers.{frame_number, index_read, argument_read, written_number, checked_number};
+ghost use Rattle.firmware.specs.Numbers.{number_told, index_read, argument_read};
 
-use base::Written;
+use answers::number_told;
 pub use blocks::{mmc_parts_block_in, mmc_parts_block_out};
 pub use calls::{mmc_parts_make, mmc_parts_power_on, mmc_parts_work_done};
 pub use frames::mmc_parts_frame;
-use wire::{Checked, Frame};
 
 // The CRC7 of any bytes.
 #[unsafe(no_mangle)]
@@ -46,33 +45,19 @@ pub extern "C" fn mmc_crc16(bytes: &[u8]) -> u16
 #[unsafe(no_mangle)]
 pub extern "C" fn mmc_read_frame(frame: &[u8], index: &mut u8, argument: &mut u32) -> u8
     ensures answer { let read = frame_of frame.now in
-        result ≡ frame_number read }
+        result ≡ number_told read }
     ensures index { let read = frame_of frame.now in
         index.new ≡ index_read read index.old }
     ensures argument { let read = frame_of frame.now in
         argument.new ≡ argument_read read argument.old }
 {
-    let read = wire::read_frame(frame);
-    match read {
-        Frame::Command {
-            index: i,
-            argument: a,
-        } => {
-            *index = i;
-            *argument = a;
+    match wire::read_frame(frame) {
+        Ok(command) => {
+            *index = command.index;
+            *argument = command.argument;
             0
         }
-        Frame::Refused(refusal) => base::number(refusal),
-    }
-}
-
-// The number of what was written.
-fn number_written(written: Written) -> u8
-    ensures { result ≡ written_number written }
-{
-    match written {
-        Written::Bytes(_) => 0,
-        Written::Refused(refusal) => base::number(refusal),
+        Err(refusal) => base::number(refusal),
     }
 }
 
@@ -81,35 +66,29 @@ fn number_written(written: Written) -> u8
 pub extern "C" fn mmc_write_command(index: u8, argument: u32, out: &mut [u8]) -> u8
     ensures answer { let frame = command_frame index argument in
         let written = indexed index frame out.old in
-        result ≡ written_number written }
+        result ≡ number_told written }
     ensures output { let frame = command_frame index argument in
         let written = indexed index frame out.old in
         out.new ≡ laid written frame out.old }
 {
-    let written = wire::write_command(index, argument, out);
-    number_written(written)
+    number_told(wire::write_command(index, argument, out))
 }
 
 // A block written to the front of `out`: 5, 6.
 #[unsafe(no_mangle)]
 pub extern "C" fn mmc_write_block(payload: &[u8], out: &mut [u8]) -> u8
     ensures answer { let written = block_written payload.now out.old in
-        result ≡ written_number written }
+        result ≡ number_told written }
     ensures output { let written = block_written payload.now out.old in
         out.new ≡ laid written (block_of payload.now) out.old }
 {
-    let written = wire::write_block(payload, out);
-    number_written(written)
+    number_told(wire::write_block(payload, out))
 }
 
 // A block checked: 5, 17.
 #[unsafe(no_mangle)]
 pub extern "C" fn mmc_check_block(block: &[u8]) -> u8
-    ensures answer { result ≡ checked_number (checked_of block.now) }
+    ensures answer { result ≡ number_told (checked_of block.now) }
 {
-    let checked = wire::check_block(block);
-    match checked {
-        Checked::Payload(_) => 0,
-        Checked::Refused(refusal) => base::number(refusal),
-    }
+    number_told(wire::check_block(block))
 }

@@ -6,7 +6,7 @@
 --   new_part           where the new password stands in the block
 --   presented_cut .. presented_is    the tests of `presented` in their order, each where it decides
 --   settable_cut .. settable_is      the same of `settable`
---   presented_parts, settable_parts    what is known of a block that passes them
+--   presented_parts, settable_parts, settable_two    what is known of a block that passes them
 -- Assumes nothing.
 use mathlib.Core.Path.{◌≡◌, sym, ap, ap₂, ◌∙◌}
 use mathlib.Core.Bool.{true, false}
@@ -44,6 +44,10 @@ presented_parts lock p s =
     let t0 = passed (long_enough p) false _ true never s in
     let t1 = passed (leb 1 (length (stored lock))) false _ true never t0.1 in
     (leb-true 1 (length (stored lock)) t1.0, same_equal (password_in p) (stored lock) t1.1)
+
+pub settable_two : (lock : Lock) (p : List ℕ) → settable lock p ≡ true → 2 ≤ length p
+unfolding settable
+settable_two lock p s = omega (arith, enough p (passed (long_enough p) false _ true never s).0)
 
 -- the payload of a request k with a password, and what may follow it in the block
 abbrev pub with_password : ℕ → List ℕ → List ℕ → List ℕ
@@ -110,3 +114,10 @@ module _ (lock : Lock) (p : List ℕ) (n : ℕ) (long : n ≡ length (stored loc
       let lo = leb-true 1 (length (new_of lock p)) t1.0 in
       let hi = leb-true (length (new_of lock p)) 16 t2.0 in
       (t0.0, omega (arith, new_length t0.0), omega (arith, new_length t0.0))
+
+-- the tests by which `lock::presented` and `lock::settable` answer, and what `lock::set_password` knows of a block that passes
+pub ruleset presented_tests = (presented_cut, presented_none, presented_other, presented_is)
+
+pub ruleset settable_tests = (settable_cut, settable_few, settable_many, settable_is)
+
+pub ruleset set_laws = (settable_two, settable_parts, enough, new_part)

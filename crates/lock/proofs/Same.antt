@@ -3,18 +3,16 @@
 --   same_equal    two lists that are the same are equal
 --   same_differ   two lists that are not equal are not the same
 --   same_length   so lists of different lengths, as a prefix and what it is a prefix of, are not the same
---   turn          equal so far, and equal at one place more
 --   miss          different at a place below n, and so in the first n
 -- Assumes nothing.
 use mathlib.Core.Path.{◌≡◌, refl, sym, ap, ap₂, ◌∙◌}
 use mathlib.Core.Bool.{true, false}
-use mathlib.Core.List.{List, [], ◌∷◌, ◌++◌}
-use Prim.Native.Nat.{ℕ, ◌+◌, ◌<◌}
-use native.Mathlib.Numerals.{add-one}
+use mathlib.Core.List.{List, [], ◌∷◌}
+use Prim.Native.Nat.{ℕ, ◌<◌}
 use borrow.Author.Tests.{eq-eqb, eqb-true}
 use lib.Dec.{eqb}
 use lib.ListN.{length, take, get_or}
-use lib.Seq.{take-suc, get_or-take}
+use lib.Seq.{get_or-take}
 use Rattle.base.proofs.Cases.{cases, never}
 use Rattle.lock.specs.Passwords.{same}
 
@@ -38,14 +36,6 @@ same_differ a b ne = cases (same a b) (λ (t : same a b ≡ true). absurd (ne (s
 
 pub same_length : (a b : List ℕ) → (length a ≡ length b → ⊥) → same a b ≡ false
 same_length a b ne = same_differ a b (λ (e : a ≡ b). ne (ap length e))
-
-pub turn : (s t : List ℕ) (i : ℕ) → i < length s → i < length t → take i s ≡ take i t → get_or s i 0 ≡ get_or t i 0 → take (i + 1) s ≡ take (i + 1) t
-turn s t i hs ht so_far here =
-    ap (λ (k : ℕ). take k s) (add-one i)
-    ∙ take-suc s i 0 hs
-    ∙ ap₂ (λ (l : List ℕ) (x : ℕ). l ++ (x ∷ [])) so_far here
-    ∙ sym (take-suc t i 0 ht)
-    ∙ ap (λ (k : ℕ). take k t) (sym (add-one i))
 
 pub miss : (s t : List ℕ) (i n : ℕ) → i < n → (get_or s i 0 ≡ get_or t i 0 → ⊥) → same (take n s) (take n t) ≡ false
 miss s t i n h ne =

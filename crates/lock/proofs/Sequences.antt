@@ -23,12 +23,12 @@ use Rattle.lock.specs.Passwords.{stored, holding, no_password, flagged, powered_
 use Rattle.lock.specs.Requests.{old_of, new_of, settable, presented, request_of}
 use Rattle.lock.specs.declared.Answer.TheVariants.{Granted}
 use Rattle.lock.specs.declared.Lock.{Lock}
-use Rattle.lock.specs.declared.Making.TheVariants.{Done, Refused}
 use Rattle.lock.specs.declared.Requested.{Requested}
 use Rattle.lock.proofs.Carried.{with_password, whole_with, carried_with}
 use Rattle.lock.proofs.Laws.{set_holds}
 use Rattle.lock.proofs.Same.{same_itself}
 use Rattle.lock.proofs.Stored.{stored_holding}
+use Rattle.std.specs.Prelude.{Ok, Err}
 
 pub shown : (lock : Lock) (k : ℕ) (bytes more : List ℕ) → bytes ≡ stored lock → 1 ≤ length bytes → presented lock (with_password k bytes more) ≡ true
 unfolding presented
@@ -111,13 +111,12 @@ unfolding powered_of
 powered_keeps lock = (refl, refl)
 
 pub made_stores : (bytes : List ℕ) → length bytes ≤ 16
-    → (stored (lock_made bytes).lock ≡ bytes) × ((lock_made bytes).lock.locked ≡ leb 1 (length bytes)) × ((lock_made bytes).making ≡ Done)
+    → (lock : Lock) × ((lock_made bytes ≡ Ok lock) × (stored lock ≡ bytes) × (lock.locked ≡ leb 1 (length bytes)))
 unfolding lock_made powered_of stored
 made_stores bytes h =
     let s = stored_holding bytes false h in
-    let t = le-leb (length bytes) 16 h in
-    (simp t s, simp t (ap (λ (l : List ℕ). leb 1 (length l)) s), simp t)
+    (powered_of (holding bytes false), (simp (le-leb (length bytes) 16 h), s, ap (λ (l : List ℕ). leb 1 (length l)) s))
 
-pub made_refuses : (bytes : List ℕ) → 16 < length bytes → lock_made bytes ≡ record { lock = no_password; making = Refused (by 11) }
+pub made_refuses : (bytes : List ℕ) → 16 < length bytes → lock_made bytes ≡ Err (by 11)
 unfolding lock_made
 made_refuses bytes h = simp (lt-leb (length bytes) 16 h)

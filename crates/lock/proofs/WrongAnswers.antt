@@ -13,7 +13,7 @@
 --   six_locks            byte 0 = 6
 --   cleared_leaves_bytes clear that leaves the password's bytes behind its length of 0
 -- Assumes nothing.
-use mathlib.Core.Path.{◌≡◌, sym, ap}
+use mathlib.Core.Path.{◌≡◌, refl, sym, ap}
 use mathlib.Core.Bool.{true, false}
 use mathlib.Core.List.{List, [], ◌∷◌}
 use Prim.Native.Nat.{ℕ}
@@ -24,6 +24,7 @@ use Rattle.lock.specs.Passwords.{stored, same, holding, no_password, powered_of,
 use Rattle.lock.specs.Requests.{password_in, old_of, new_of, settable, presented, request_of}
 use Rattle.lock.specs.declared.Answer.TheVariants.{Granted, Erased, Failed}
 use Rattle.lock.specs.declared.Lock.{Lock}
+use Rattle.std.specs.Prelude.{Ok}
 
 -- a card with the password 7, 9
 abbrev unlocked : Lock
@@ -44,9 +45,9 @@ powered_unlocks : (powered_of locked).locked ≡ false → ⊥
 unfolding holding powered_of stored
 powered_unlocks e = never (sym e)
 
-made_unlocked : (lock_made (7 ∷ 9 ∷ [])).lock.locked ≡ false → ⊥
+made_unlocked : (lock : Lock) × ((lock_made (7 ∷ 9 ∷ []) ≡ Ok lock) × (lock.locked ≡ false → ⊥))
 unfolding lock_made holding powered_of stored
-made_unlocked e = never (sym e)
+made_unlocked = (powered_of (holding (7 ∷ 9 ∷ []) false), (refl, λ e. never (sym e)))
 
 prefix_unlocks : (request_of locked (0 ∷ 1 ∷ 7 ∷ []) false).answer ≡ Granted → ⊥
 unfolding request_of presented password_in same stored holding

@@ -1,11 +1,10 @@
 -- Document 01, "Memory of one card": "A password is 0 to 16 bytes; 0 means none".
 -- Assumes nothing.
-use Rattle.std.specs.Prelude.{Bool, true, false, List, [], ◌∷◌, ◌++◌, ℕ, ◌-◌, min, eqb, leb, length, take, replicate}
+use Rattle.std.specs.Prelude.{Bool, true, false, List, [], ◌∷◌, ◌++◌, ℕ, ◌-◌, min, eqb, leb, length, take, replicate, Result, Ok, Err}
+use Rattle.base.specs.declared.Refusal.{Refusal}
 use Rattle.base.specs.Choice.{pick, unless}
 use Rattle.base.specs.Refusals.{by}
 use Rattle.lock.specs.declared.Lock.{Lock}
-use Rattle.lock.specs.declared.Made.{Made}
-use Rattle.lock.specs.declared.Making.TheVariants.{Done, Refused}
 
 -- the most bytes of a password
 abbrev pub longest_password : ℕ
@@ -39,7 +38,6 @@ unfoldable pub powered_of : Lock → Lock
 powered_of lock = flagged lock (leb 1 (length (stored lock)))
 
 -- 11: "password over 16 bytes"; "a made card is as after power-on"
-unfoldable pub lock_made : List ℕ → Made
+unfoldable pub lock_made : List ℕ → Result Lock Refusal
 lock_made bytes =
-    unless (leb (length bytes) longest_password) (record { lock = no_password; making = Refused (by 11) })
-    (record { lock = powered_of (holding bytes false); making = Done })
+    unless (leb (length bytes) longest_password) (Err (by 11)) (Ok (powered_of (holding bytes false)))

@@ -1,7 +1,7 @@
 // The password of a card with its lock flag, and the requests of CMD42 on them (document 01,
 // "Reading, writing, erasing, locking"). Any record may come in: a length over 16 reads as 16.
 //
-// Offers: `Lock`, `no_password`, `powered`; `Making`, `Made`, `make`; `Operation`, `Answer`,
+// Offers: `Lock`, `no_password`, `powered`; `make`; `Operation`, `Answer`,
 // `Requested`, `request`.
 #![tactic(auto)]
 
@@ -12,6 +12,7 @@ ghost use Rattle.lock.specs.Requests.{asked_by, long_enough, new_of, settable, p
 use base::{Refusal, copy};
 
 // The password is the first `length` bytes; a length of 0 means none.
+// Bytes and a length, no slice: `crossing::card_of` and the C calls have them apart.
 #[derive(Clone, Copy)]
 pub struct Lock {
     pub password: [u8; 16],
@@ -19,22 +20,8 @@ pub struct Lock {
     pub locked: bool,
 }
 
-// Whether a password was taken, or the refusal.
-#[derive(Clone, Copy)]
-pub enum Making {
-    Done,
-    Refused(Refusal),
-}
-
-// A record made from a password: without one if it was refused.
-#[derive(Clone, Copy)]
-pub struct Made {
-    pub lock: Lock,
-    pub making: Making,
-}
-
 // What a lock request asks for.
-#[derive(Clone, Copy)]
+#[derive(Clone, Copy, PartialEq, Eq)]
 pub enum Operation {
     Unlock,
     Set,
@@ -46,7 +33,7 @@ pub enum Operation {
 }
 
 // What became of a request. After `Erased` the caller fills the memory and clears the map.
-#[derive(Clone, Copy)]
+#[derive(Clone, Copy, PartialEq, Eq)]
 pub enum Answer {
     Granted,
     Erased,
@@ -60,6 +47,7 @@ pub struct Requested {
 }
 
 // A record without a password, unlocked.
+#[tactic(auto, unfolding(crate::specs::Passwords::holding))]
 pub fn no_password() -> Lock
     ensures answer { result ≡ no_password }
 {
@@ -89,10 +77,7 @@ fn held(lock: Lock) -> usize
     ensures answer { result ≡ length (stored lock) }
     ensures bound { result ≤ longest_password }
 {
-    if 16 < lock.length {
-        return 16;
-    }
-    lock.length as usize
+    lock.length.min(16) as usize
 }
 
 // The record with another flag, as it is otherwise.
@@ -103,6 +88,7 @@ fn flagged(lock: Lock, locked: bool) -> Lock
 }
 
 // Power-on: locked exactly if a password is stored.
+#[tactic(auto, unfolding(crate::specs::Passwords::powered_of))]
 pub fn powered(lock: Lock) -> Lock
     ensures answer { result ≡ powered_of lock }
 {
@@ -110,81 +96,59 @@ pub fn powered(lock: Lock) -> Lock
 }
 
 // The record of a card made with a password: 11.
-pub fn make(password: &[u8]) -> Made
+#[tactic(auto, unfolding(crate::specs::Passwords::lock_made))]
+pub fn make(password: &[u8]) -> Result<Lock, Refusal>
     ensures answer { result ≡ lock_made password.now }
 {
     if 16 < password.len() {
-        return Made {
-            lock: no_password(),
-            making: Making::Refused(Refusal::PasswordLength),
-        };
+        return Err(Refusal::PasswordLength);
     }
-    Made {
-        lock: powered(holding(password, false)),
-        making: Making::Done,
-    }
+    Ok(powered(holding(password, false)))
 }
+
+// Record and payload stay two parameters below: a struct of both lengthens each clause by its fields.
 
 // Whether the block has byte 1 and as many bytes behind it as that says.
 fn long_enough(payload: &[u8]) -> bool
     ensures { result ≡ long_enough payload.now }
 {
-    if payload.len() < 2 {
-        return false;
-    }
-    2 + payload[1] as usize <= payload.len()
+    2 <= payload.len() && 2 + payload[1] as usize <= payload.len()
 }
 
-// Whether the bytes from byte 2 on, of which there are enough, begin with the stored password.
+// Whether the bytes from byte 2 on, of which there are enough, begin with the stored password. Byte
+// by byte: `starts_with` takes 30 instructions more of a password set.
 fn matches(lock: Lock, payload: &[u8]) -> bool
     requires { 2 + length (stored lock) ≤ length payload.now }
     ensures { result ≡ same (take (length (stored lock)) (drop 2 payload.now)) (stored lock) }
 {
-    let password = lock.password;
     let n = held(lock);
-    let mut i: usize = 0;
-    while i < n {
-        if payload[2 + i] != password[i] {
+    for i in 0..n {
+        if payload[2 + i] != lock.password[i] {
             return false;
         }
-        i += 1;
     }
     true
 }
 
 // Whether the block carries the stored password, all of it and no more.
+#[tactic(auto, using(crate::proofs::Carried::presented_tests))]
 fn presented(lock: Lock, payload: &[u8]) -> bool
     ensures { result ≡ presented lock payload.now }
 {
-    if !long_enough(payload) {
-        return false;
-    }
     let n = held(lock);
-    if n < 1 {
-        return false;
-    }
-    if payload[1] as usize != n {
-        return false;
-    }
-    matches(lock, payload)
+    long_enough(payload) && 1 <= n && payload[1] as usize == n && matches(lock, payload)
 }
 
 // Whether the block carries the stored password and behind it a new one of 1 to 16 bytes.
+#[tactic(auto, using(crate::proofs::Carried::settable_tests))]
 fn settable(lock: Lock, payload: &[u8]) -> bool
     ensures { result ≡ settable lock payload.now }
 {
-    if !long_enough(payload) {
-        return false;
-    }
-    let told = payload[1] as usize;
     let n = held(lock);
-    if told < n + 1 {
-        return false;
-    }
-    if n + 16 < told {
-        return false;
-    }
-    matches(lock, payload)
+    long_enough(payload)
+        && n < payload[1] as usize
+        && payload[1] as usize <= n + 16
+        && matches(lock, payload)
 }
 
 fn failed(lock: Lock) -> Requested
@@ -211,6 +175,7 @@ fn for_password(lock: Lock, payload: &[u8], next: Lock) -> Requested
 }
 
 // What set, and set and lock, share: the new password is taken with a flag.
+#[tactic(auto, using(crate::proofs::Carried::set_laws))]
 fn set_password(lock: Lock, payload: &[u8], locked: bool) -> Requested
     ensures { result ≡ granted_if (settable lock payload.now) lock (holding (new_of lock payload.now) locked) }
 {
@@ -238,17 +203,19 @@ fn forced_erase(lock: Lock, protected: bool) -> Requested
 }
 
 // The request that byte 0 names.
-fn asked_by(byte: u8) -> Operation
-    ensures { result ≡ asked_by byte }
-{
-    match byte {
-        0 => Operation::Unlock,
-        1 => Operation::Set,
-        2 => Operation::Clear,
-        4 => Operation::Lock,
-        5 => Operation::SetAndLock,
-        8 => Operation::ForcedErase,
-        _ => Operation::Unknown,
+impl From<u8> for Operation {
+    ghost from_gives = { λ byte asked. asked ≡ asked_by byte };
+
+    fn from(byte: u8) -> Operation {
+        match byte {
+            0 => Operation::Unlock,
+            1 => Operation::Set,
+            2 => Operation::Clear,
+            4 => Operation::Lock,
+            5 => Operation::SetAndLock,
+            8 => Operation::ForcedErase,
+            _ => Operation::Unknown,
+        }
     }
 }
 
@@ -257,8 +224,7 @@ fn allowed(byte: u8, locked: bool) -> bool
     ensures { result ≡ allowed byte locked }
 {
     match byte {
-        0 => locked,
-        8 => locked,
+        0 | 8 => locked,
         _ => !locked,
     }
 }
@@ -279,15 +245,14 @@ fn done(asked: Operation, lock: Lock, payload: &[u8], protected: bool) -> Reques
 
 // A lock request judged and carried out on the record. `protected` says that CSD bit 13 or 12 is
 // set.
+#[tactic(auto, unfolding(crate::specs::Requests::request_of))]
 pub fn request(lock: Lock, payload: &[u8], protected: bool) -> Requested
     ensures answer { result ≡ request_of lock payload.now protected }
 {
-    if payload.len() < 1 {
-        return failed(lock);
+    match payload.first() {
+        Some(&byte) if allowed(byte, lock.locked) => {
+            done(Operation::from(byte), lock, payload, protected)
+        }
+        _ => failed(lock),
     }
-    let byte = payload[0];
-    if !allowed(byte, lock.locked) {
-        return failed(lock);
-    }
-    done(asked_by(byte), lock, payload, protected)
 }

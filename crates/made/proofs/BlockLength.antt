@@ -46,13 +46,13 @@ use Rattle.spi.specs.declared.Heard.{Heard}
 use Rattle.spi_moves.specs.Moves.{row_of as row_in_spi, move_of as move_in_spi}
 use Rattle.states.specs.declared.State.{State}
 use Rattle.states.specs.declared.State.TheVariants.{Idle, Ready, Ident, Stby, Tran, Data, Rcv, Prg, Dis, Ina}
-use Rattle.status.specs.declared.Fault.TheVariants.{None}
 use Rattle.store.specs.Lent.{Seen}
 use Rattle.made.proofs.Faults.{length_right}
 use Rattle.made.proofs.Heard.{heard_or_not}
 use Rattle.made.proofs.Took.{Took, stopped, reset, obeyed, unfaulted, heard_took}
 use Rattle.made.specs.BlockLength.{Brings, LengthLeft, kept, powered, idled, set}
 use Rattle.made.specs.Run.{Input}
+use Rattle.std.specs.Prelude.{None}
 
 -- ---- CMD16 outside tran
 in_tran : (s : State) → (s ≡ Tran) ⊎ (s ≡ Tran → ⊥)

@@ -31,13 +31,13 @@ use Rattle.status.specs.ErrorBits.{error_bit}
 use Rattle.status.specs.Status.{with_bit}
 use Rattle.status.specs.declared.ErrorBit.{ErrorBit}
 use Rattle.status.specs.declared.Errors.{Errors}
-use Rattle.status.specs.declared.Fault.{Fault}
 use Rattle.store.specs.Lent.{Seen}
 use Rattle.tags.specs.Tagging.{any_of}
 use Rattle.wire.specs.Blocks.{payload_of}
 use Rattle.made.proofs.Locks.{request_made}
 use Rattle.made.proofs.Pending.{set_either}
 use Rattle.made.specs.Made.{Sends, Awaits, Waits, Pending, MadeLink, Made}
+use Rattle.std.specs.Prelude.{Option}
 
 -- a link without tags goes to another state, with another lock flag and other error bits
 relinked : (spi : Bool) (groups : ℕ) (locked next : Bool) (link : Link) (state : State) (errors : Errors) → MadeLink spi groups locked link
@@ -97,7 +97,7 @@ sent_five (Protection group) next = refl
 sent_five Csd next = refl
 sent_five Cid next = refl
 
-refused_pending : (spi : Bool) (card : Card) (incoming : Incoming) {refusal : Refusal} {fault : Fault} (errors : Errors)
+refused_pending : (spi : Bool) (card : Card) (incoming : Incoming) {refusal : Refusal} {fault : Option ErrorBit} (errors : Errors)
     → Pending spi errors → Refuses card incoming refusal fault → Pending spi (with_fault errors fault)
 refused_pending spi card incoming errors h wrong_length_lem = set_either spi errors (error_bit 29) refl refl h
 refused_pending spi card incoming errors h wrong_crc = h

@@ -32,14 +32,14 @@ use Rattle.states.specs.declared.Column.{Column}
 use Rattle.states.specs.declared.Column.TheVariants.{Idle, Ready, Ident, Stby, Tran, Data, Rcv, Prg, Dis, Ina}
 use Rattle.status.specs.ErrorBits.{error_bit}
 use Rattle.status.specs.Status.{no_errors, with_bit}
-use Rattle.status.specs.declared.Fault.{Fault}
-use Rattle.status.specs.declared.Fault.TheVariants.{None, Bit}
 use Rattle.tags.specs.declared.Tagging.{Tagging}
 use Rattle.made.proofs.Acted.{acted_made}
 use Rattle.made.proofs.Links.{errors_made, told_pending, left_pending}
 use Rattle.made.proofs.Pending.{none_pending, set_pending}
 use Rattle.made.specs.Leading.{Leading}
 use Rattle.made.specs.Made.{Pending, MadeLink}
+use Rattle.std.specs.Prelude.{Option, Some, None}
+use Rattle.status.specs.declared.ErrorBit.{ErrorBit}
 
 -- ---- the table
 status_stays : (from there : Column) → move_of SendStatus from ≡ To there → there ≡ from
@@ -107,11 +107,11 @@ module _ (link : Link) (met : Met) (index argument : ℕ) where
     abbrev Reported : Acted → Type 0
     Reported acted = Pending false (left_of (response_of (row_at index)) acted.errors)
 
-    checked : (column : Column) → move_of (row_at index) on ≡ To column → (error : Fault) → judged.error ≡ error
+    checked : (column : Column) → move_of (row_at index) on ≡ To column → (error : Option ErrorBit) → judged.error ≡ error
         → Reported (after_checks link index argument column judged.tags error)
     unfolding after_checks
     checked column taken None e = left_pending (response_of (row_at index)) (reset_told link index) (told_pending link index made.errors)
-    checked column taken (Bit bit) e = rw (fault_by_r1 link met index argument bit e column taken) (none_pending false)
+    checked column taken (Some bit) e = rw (fault_by_r1 link met index argument bit e column taken) (none_pending false)
 
     reported : (column : Column) → move_of (row_at index) on ≡ To column → Reported (acted_of link met index argument column)
     unfolding acted_of

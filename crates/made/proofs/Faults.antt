@@ -14,13 +14,12 @@ use Rattle.command.specs.Obey.{passes_lock}
 use Rattle.card_record.specs.Record.{crosses}
 use Rattle.status.specs.ErrorBits.{error_bit}
 use Rattle.status.specs.declared.ErrorBit.{ErrorBit}
-use Rattle.status.specs.declared.Fault.{Fault}
-use Rattle.status.specs.declared.Fault.TheVariants.{None, Bit}
 use Rattle.wire.specs.Blocks.{longest_block}
+use Rattle.std.specs.Prelude.{Option, Some, None}
 
 -- a test that would have set a bit held, and so did those behind it
-right : (t : Bool) (bit : ErrorBit) (rest : Fault) → unless t (Bit bit) rest ≡ None → (t ≡ true) × (rest ≡ None)
-right t bit rest e = passed t (Bit bit) rest None (λ (z : Bit bit ≡ None). clash cc) e
+right : (t : Bool) (bit : ErrorBit) (rest : Option ErrorBit) → unless t (Some bit) rest ≡ None → (t ≡ true) × (rest ≡ None)
+right t bit rest e = passed t (Some bit) rest None (λ (z : Some bit ≡ None). clash cc) e
 
 module _ (argument : ℕ) where
   pub address_right : address_fault argument ≡ None → 1 ≤ argument / 65536

@@ -12,11 +12,11 @@ use Rattle.command.specs.Command.{met_by}
 use Rattle.spi.proofs.Laws.{spi_high}
 use Rattle.spi.specs.Hearing.{unheard, heard_of, crc_passes}
 use Rattle.spi.specs.declared.Heard.{Heard}
-use Rattle.wire.specs.Frames.{framing_of}
-use Rattle.wire.specs.declared.Framing.TheVariants.{Framed}
+use Rattle.wire.specs.Frames.{framing_of, as_fields}
 use Rattle.made.specs.Heard.{HeardAs}
+use Rattle.std.specs.Prelude.{Ok}
 
-module _ (card : Card) (wins selected : Bool) (frame : List ℕ) (index argument : ℕ) (right : Bool) (is : framing_of frame ≡ Framed index argument right)
+module _ (card : Card) (wins selected : Bool) (frame : List ℕ) (index argument : ℕ) (right : Bool) (is : framing_of frame ≡ Ok (as_fields index argument right))
     (passes : crc_passes card.mode index right ≡ true) where
   abbrev heard : Bool → Heard
   heard line = heard_of card.mode line card.link (met_by card wins) index argument

@@ -13,15 +13,15 @@ use Rattle.card_blocks.specs.BlockIn.{sector_at, block_refused, block_good}
 use Rattle.card.specs.Step.{step_of}
 use Rattle.card_blocks.specs.declared.BlockJudged.{BlockJudged}
 use Rattle.card.specs.declared.Call.TheVariants.{BlockIn}
-use Rattle.card_blocks.specs.declared.Outcome.TheVariants.{Refused}
 use Rattle.moves.proofs.Among.{each}
 use Rattle.card_record.specs.declared.Card.{Card}
 use Rattle.states.specs.declared.Incoming.{Incoming}
 use Rattle.states.specs.declared.Incoming.TheVariants.{One}
 use Rattle.states.specs.declared.State.TheVariants.{Rcv}
-use Rattle.status.specs.declared.Fault.{Fault}
 use Rattle.store.specs.Lent.{Seen}
 use Rattle.made.specs.Made.{Awaits, Waits, Made}
+use Rattle.std.specs.Prelude.{Option, Err}
+use Rattle.status.specs.declared.ErrorBit.{ErrorBit}
 
 module _ (card : Card) (made : Made card) (at : ℕ) (awaits : card.link.state ≡ Rcv (One at)) where
   inside : sector_at at < sectors card
@@ -31,7 +31,7 @@ module _ (card : Card) (made : Made card) (at : ℕ) (awaits : card.link.state �
       omega arith
 
   -- of the refusals of an awaited block only 18 has that number, and it says that the block lies outside
-  refusal_other : (incoming : Incoming) {refusal : Refusal} {fault : Fault} → card.link.state ≡ Rcv incoming → Refuses card incoming refusal fault
+  refusal_other : (incoming : Incoming) {refusal : Refusal} {fault : Option ErrorBit} → card.link.state ≡ Rcv incoming → Refuses card incoming refusal fault
       → number_of refusal ≡ 18 → ⊥
   refusal_other incoming on wrong_length_lem e = omega arith
   refusal_other incoming on wrong_crc e = omega arith
@@ -41,7 +41,7 @@ module _ (card : Card) (made : Made card) (at : ℕ) (awaits : card.link.state �
   refusal_other incoming on failed e = omega arith
 
   abbrev refused_by : Refusal → BlockJudged → Type 0
-  refused_by refusal judged = judged.stepped.reply.outcome ≡ Refused refusal
+  refused_by refusal judged = judged.stepped.reply.outcome ≡ Err refusal
 
   module _ (block : List ℕ) (seen : Seen) (refusal : Refusal) where
     not_18 : {judged : BlockJudged} → InOutcome card block seen judged → refused_by refusal judged → number_of refusal ≡ 18 → ⊥
@@ -54,5 +54,5 @@ module _ (card : Card) (made : Made card) (at : ℕ) (awaits : card.link.state �
     not_18 (forces on erased) e is = clash cc
 
   pub one_block_in_range : (block : List ℕ) (seen : Seen) (room : ℕ) (refusal : Refusal)
-      → (step_of card BlockIn block seen room).reply.outcome ≡ Refused refusal → number_of refusal ≡ 18 → ⊥
+      → (step_of card BlockIn block seen room).reply.outcome ≡ Err refusal → number_of refusal ≡ 18 → ⊥
   one_block_in_range block seen room refusal = not_18 block seen refusal (block_outcome card block seen)

@@ -43,8 +43,6 @@ use Rattle.status.specs.Status.{with_bit}
 use Rattle.status.specs.declared.ErrorBit.{ErrorBit}
 use Rattle.status.specs.declared.ErrorBit.TheVariants as bit
 use Rattle.status.specs.declared.Errors.{Errors}
-use Rattle.status.specs.declared.Fault.{Fault}
-use Rattle.status.specs.declared.Fault.TheVariants.{None, Bit}
 use Rattle.tags.specs.Tagging.{any_of}
 use Rattle.tags.specs.declared.Tagging.{Tagging}
 use Rattle.tags.specs.declared.Tags.{Tags}
@@ -53,6 +51,7 @@ use Rattle.made.proofs.Commands.{link_made}
 use Rattle.made.proofs.LeadingInSpi.{leading}
 use Rattle.made.proofs.Links.{fresh_made, errors_made, damaged_made}
 use Rattle.made.specs.Made.{pending_bits, Pending, MadeLink, MadeMode}
+use Rattle.std.specs.Prelude.{Option, Some, None}
 
 -- ---- the answer
 -- every error bit that has a name
@@ -109,10 +108,10 @@ module _ (link : Link) (met : Met) (index argument : ℕ) where
         let own : Named link.errors = pending_named link.errors pending in
         guarded Named (drops_tags index) (λ t. own) (λ t. guarded Named (any_of link.tags) (λ u. own) (λ u. set_named link.errors (error_bit 13) own))
 
-    checked_named : (column : Column) (tags : Tags) (error : Fault) → Named (after_checks link index argument column tags error).errors
+    checked_named : (column : Column) (tags : Tags) (error : Option ErrorBit) → Named (after_checks link index argument column tags error).errors
     unfolding after_checks
     checked_named column tags None = told_named
-    checked_named column tags (Bit b) = set_named (reset_told link index) b told_named
+    checked_named column tags (Some b) = set_named (reset_told link index) b told_named
 
     acted_named : (column : Column) → Named (acted_of link met index argument column).errors
     unfolding acted_of
@@ -154,11 +153,11 @@ module _ (link : Link) (met : Met) (index argument : ℕ) where
     at_reached Dis h = absurd h
     at_reached Ina h = absurd h
 
-    checked_reached : (column : Column) (tags : Tags) (error : Fault) → T (in_state column five)
+    checked_reached : (column : Column) (tags : Tags) (error : Option ErrorBit) → T (in_state column five)
         → Reached (after_checks link index argument column tags error).link.state
     unfolding after_checks obeyed
     checked_reached column tags None h = at_reached column h
-    checked_reached column tags (Bit b) h = here
+    checked_reached column tags (Some b) h = here
 
     acted_reached : (column : Column) → T (in_state column five) → Reached (acted_of link met index argument column).link.state
     unfolding acted_of fresh_link

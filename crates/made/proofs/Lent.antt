@@ -28,24 +28,21 @@ use Rattle.command.specs.declared.Change.{Change}
 use Rattle.command.specs.declared.Change.TheVariants.{Nothing, Protect, Erase}
 use Rattle.lock.specs.Passwords.{lock_made as lock_made_of}
 use Rattle.lock.specs.declared.Lock.{Lock}
-use Rattle.lock.specs.declared.Making.{Making as LockMaking}
-use Rattle.lock.specs.declared.Making.TheVariants.{Done as LockDone, Refused as LockRefused}
 use Rattle.moves.specs.Rows.{window}
 use Rattle.card_record.specs.Making.{failed_make, locked_by, password_made, made_of}
 use Rattle.card_record.specs.declared.Card.{Card}
 use Rattle.card_record.specs.declared.Made.{Made as MadeOf}
-use Rattle.card_record.specs.declared.Making.TheVariants.{Done}
 use Rattle.card_record.specs.declared.Registers.{Registers}
 use Rattle.store.proofs.OnceLent.{right_parts, parts_right}
 use Rattle.store.specs.Lent.{Lent, Seen, seen_of, seen, lending_of}
 use Rattle.store.specs.Map.{entries_right, map_right, group_set}
 use Rattle.store.specs.Memory.{size_allowed}
-use Rattle.store.specs.declared.Lending.TheVariants.{Right}
 use Rattle.wire.specs.Responses.{register_right}
 use Rattle.made.proofs.Kept.{registers_kept}
 use Rattle.made.proofs.Run.{lent_lengths}
 use Rattle.made.proofs.Stays.{whole_groups}
 use Rattle.made.specs.Run.{World, Input, next, run_of, made_lent, begun}
+use Rattle.std.specs.Prelude.{Result, Ok, Err}
 
 -- ---- the entries of a map
 set_small : (l : List ℕ) (i j v : ℕ) → v ≤ 1 → get_or l j 0 ≤ 1 → get_or (set l i v) j 0 ≤ 1
@@ -104,7 +101,7 @@ lent_entries card PowerOn input lent e = e
 -- ---- what is lent
 -- it is right for the card
 abbrev pub RightlyLent : World → Type 0
-RightlyLent world = lending_of (seen world.lent) world.card.registers.groups ≡ Right
+RightlyLent world = lending_of (seen world.lent) world.card.registers.groups ≡ Ok tt
 
 pub step_lent_lem : (world : World) (input : Input) → RightlyLent world → RightlyLent (next world input)
 unfolding next
@@ -127,12 +124,11 @@ run_lent world (input ∷ inputs) right = run_lent (next world input) inputs (st
 -- what making was lent is right for the card that it made
 module _ (seen : Seen) where
   abbrev Lends : MadeOf → Type 0
-  Lends made = made.making ≡ Done → lending_of seen made.card.registers.groups ≡ Right
+  Lends made = made.making ≡ Ok tt → lending_of seen made.card.registers.groups ≡ Ok tt
 
-  password_lent : (registers : Registers) (lock : Lock) (making : LockMaking) → lending_of seen registers.groups ≡ Right
-      → Lends (locked_by registers lock making)
-  password_lent registers lock LockDone right e = right
-  password_lent registers lock (LockRefused refusal) right e = clash cc
+  password_lent : (registers : Registers) (made : Result Lock Refusal) → lending_of seen registers.groups ≡ Ok tt → Lends (locked_by registers made)
+  password_lent registers (Ok lock) right e = right
+  password_lent registers (Err refusal) right e = clash cc
 
   refused_lent : (refusal : Refusal) → Lends (failed_make refusal)
   refused_lent refusal e = clash cc
@@ -150,13 +146,13 @@ module _ (seen : Seen) where
       (λ d.
       guarded Lends (not (eqb (window ocr) 0)) (λ e. refused_lent (by 10))
       (λ o.
-      password_lent (record { cid = cid; csd = csd; ocr = ocr; groups = seen.bytes / 8192 }) (lock_made_of password).lock (lock_made_of password).making
+      password_lent (record { cid = cid; csd = csd; ocr = ocr; groups = seen.bytes / 8192 }) (lock_made_of password)
       (parts_right seen (seen.bytes / 8192) (sym (whole_groups seen.bytes allowed))
       (eqb-true (length seen.map) (seen.bytes / 8192) (first (eqb (length seen.map) (seen.bytes / 8192)) (entries_right seen.map (length seen.map)) right))
       (last (eqb (length seen.map) (seen.bytes / 8192)) (entries_right seen.map (length seen.map)) right)))))))
 
 pub made_stays_lent : (cid csd : List ℕ) (ocr : ℕ) (password : List ℕ) (lent : Lent) (inputs : List Input)
-    → (made_lent cid csd ocr password lent).making ≡ Done → RightlyLent (run_of (begun cid csd ocr password lent) inputs)
+    → (made_lent cid csd ocr password lent).making ≡ Ok tt → RightlyLent (run_of (begun cid csd ocr password lent) inputs)
 made_stays_lent cid csd ocr password lent inputs e =
     run_lent (begun cid csd ocr password lent) inputs (make_lent (seen lent) cid csd ocr password e)
 
@@ -164,6 +160,6 @@ made_stays_lent cid csd ocr password lent inputs e =
 abbrev group_set_to : ℕ → List ℕ → ℕ → Bool → List ℕ
 group_set_to entry map group on = set map group (pick on entry 0)
 
-two_unright : ((map : List ℕ) (group : ℕ) (on : Bool) → lending_of (seen_of 8192 map) 1 ≡ Right → lending_of (seen_of 8192 (group_set_to 2 map group on)) 1 ≡ Right) → ⊥
+two_unright : ((map : List ℕ) (group : ℕ) (on : Bool) → lending_of (seen_of 8192 map) 1 ≡ Ok tt → lending_of (seen_of 8192 (group_set_to 2 map group on)) 1 ≡ Ok tt) → ⊥
 unfolding entries_right
 two_unright keeps = let right = keeps (0 ∷ []) 0 true refl in clash cc

@@ -20,7 +20,8 @@ use Rattle.lock.specs.Requests.{asked_by, new_of, settable, presented, allowed, 
 use Rattle.lock.specs.declared.Operation.{Operation}
 use Rattle.lock.specs.declared.Operation.TheVariants.{Unlock, Set, Clear, Lock as ToLock, SetAndLock, ForcedErase, Unknown}
 use Rattle.lock.specs.declared.Lock.{Lock}
-use Rattle.lock.specs.declared.Made.{Made as LockMade}
+use Rattle.std.specs.Prelude.{Result, IfOk}
+use Rattle.base.specs.declared.Refusal.{Refusal}
 use Rattle.lock.specs.declared.Requested.{Requested}
 use Rattle.made.specs.Made.{MadeLock}
 
@@ -83,8 +84,8 @@ module _ (lock : Lock) (made : MadeLock lock) where
       guarded (λ (r : Requested). MadeLock r.lock) (allowed (get_or payload 0 0) lock.locked) (λ e. made)
       (λ e. done_made (asked_by (get_or payload 0 0)) payload protected))
 
-pub made_made : (password : List ℕ) → MadeLock (lock_made password).lock
+pub made_made : (password : List ℕ) → IfOk (lock_made password) MadeLock
 unfolding lock_made
 made_made password =
-    guarded (λ (m : LockMade). MadeLock m.lock) (leb (length password) 16) (λ e. none_made)
+    guarded (λ (made : Result Lock Refusal). IfOk made MadeLock) (leb (length password) 16) (λ e. tt)
     (λ e. powered_made (holding password false) (holding_made password false (leb-true (length password) 16 e) (λ e. never e)))

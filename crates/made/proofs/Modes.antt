@@ -32,15 +32,15 @@ use Rattle.command.specs.Command.{met_by}
 use Rattle.spi.proofs.Laws.{stays_in_spi as heard_stays, is_inactive, enters as heard_enters, damage_keeps_mode}
 use Rattle.spi.specs.Hearing.{crc_passes}
 use Rattle.store.specs.Lent.{Seen, seen}
-use Rattle.wire.specs.Frames.{framing_of}
-use Rattle.wire.specs.declared.Framing.TheVariants.{Framed}
+use Rattle.wire.specs.Frames.{framing_of, as_fields}
 use Rattle.made.specs.Run.{World, Input, next, run_of}
+use Rattle.std.specs.Prelude.{Ok}
 
 -- a frame that brings a card into SPI
 pub record Enters (card : Card) (selected : Bool) (frame : List ℕ) : Type 0 where
   pub low : selected ≡ true
   pub argument : ℕ
-  pub zero : framing_of frame ≡ Framed 0 argument true
+  pub zero : framing_of frame ≡ Ok (as_fields 0 argument true)
   pub awake : is_inactive card.link ≡ false
 
 abbrev pub IsPowerOn : Call → Type 0
@@ -95,7 +95,7 @@ module _ (card : Card) where
         record {
           low = first selected (eqb index 0 && not (is_inactive card.link)) all;
           argument = argument;
-          zero = is ∙ ap (λ (r : Bool). Framed index argument r) (right_in_mmc here index right passes) ∙ ap (λ (i : ℕ). Framed i argument true) zero;
+          zero = is ∙ ap (λ (r : Bool). Ok (as_fields index argument r)) (right_in_mmc here index right passes) ∙ ap (λ (i : ℕ). Ok (as_fields i argument true)) zero;
           awake = not-true (is_inactive card.link) (last (eqb index 0) (not (is_inactive card.link)) rest);
         }
 

@@ -20,8 +20,6 @@ use Rattle.card_blocks.specs.declared.BlockJudged.{BlockJudged}
 use Rattle.card.specs.declared.Call.{Call}
 use Rattle.card.specs.declared.Call.TheVariants.{Frame, BlockIn, BlockOut, WorkDone, PowerOn}
 use Rattle.card_blocks.specs.declared.OutJudged.{OutJudged}
-use Rattle.card_blocks.specs.declared.Outcome.{Outcome}
-use Rattle.card_blocks.specs.declared.Outcome.TheVariants.{Refused}
 use Rattle.card_blocks.specs.declared.Stepped.{Stepped}
 use Rattle.crc.specs.Bits.{bits}
 use Rattle.spi.specs.Hearing.{crc_passes}
@@ -31,7 +29,6 @@ use Rattle.lock.specs.declared.Answer.TheVariants.{Granted, Erased, Failed}
 use Rattle.lock.specs.declared.Lock.{Lock}
 use Rattle.card_record.specs.Record.{size_of, csd_protects, length_read, crosses}
 use Rattle.card_record.specs.declared.Card.{Card}
-use Rattle.card_record.specs.declared.Making.TheVariants.{Done}
 use Rattle.states.specs.declared.Incoming.{Incoming}
 use Rattle.states.specs.declared.Incoming.TheVariants.{One as OneIn, Many as ManyIn, LockRequest}
 use Rattle.states.specs.declared.Outgoing.{Outgoing}
@@ -40,15 +37,16 @@ use Rattle.states.specs.declared.State.{State}
 use Rattle.states.specs.declared.State.TheVariants.{Idle, Ready, Ident, Stby, Tran, Data, Rcv, Prg, Dis, Ina}
 use Rattle.store.specs.Lent.{Lent, Seen, seen, lending_of}
 use Rattle.store.specs.Map.{protected_in}
-use Rattle.store.specs.declared.Lending.TheVariants.{Right}
 use Rattle.wire.specs.Blocks.{payload_of}
 use Rattle.wire.specs.Frames.{crc7_of, field, fields_of, framing_of}
-use Rattle.wire.specs.declared.Framing.{Framing}
 use Rattle.made.specs.Run.{World, Input, outcome_of, run_of, made_lent, begun}
 use Rattle.made.proofs.Lent.{made_stays_lent}
+use Rattle.std.specs.Prelude.{Result, Option, Ok, Err}
+use Rattle.base.specs.declared.Refusal.{Refusal}
+use Rattle.wire.specs.declared.Fields.{Fields}
 
-abbrev Not12 : Outcome → Type 0
-Not12 outcome = outcome ≡ Refused (by 12) → ⊥
+abbrev Not12 : Result (Option ℕ) Refusal → Type 0
+Not12 outcome = outcome ≡ Err (by 12) → ⊥
 
 module _ (card : Card) where
   -- a frame, a block in and a block out that passed 12 give another number, or none
@@ -61,7 +59,7 @@ module _ (card : Card) where
   abbrev OutNot : OutJudged → Type 0
   OutNot judged = Not12 judged.stepped.reply.outcome
 
-  abbrev Reads : Bool → Bool → Framing → Type 0
+  abbrev Reads : Bool → Bool → Result Fields Refusal → Type 0
   Reads wins selected framing = FrameNot (framed card wins selected framing)
 
   framed_not : (wins selected : Bool) (frame : List ℕ) → FrameNot (framed card wins selected (framing_of frame))
@@ -144,7 +142,7 @@ module _ (card : Card) where
   out_not Dis room e = clash cc
   out_not Ina room e = clash cc
 
-  module _ (seen : Seen) (right : lending_of seen card.registers.groups ≡ Right) where
+  module _ (seen : Seen) (right : lending_of seen card.registers.groups ≡ Ok tt) where
     frame_judged_not : (wins selected : Bool) (frame : List ℕ) → FrameNot (frame_judged card wins selected frame seen)
     unfolding frame_judged
     frame_judged_not wins selected frame = rw right (framed_not wins selected frame)
@@ -157,7 +155,7 @@ module _ (card : Card) where
     unfolding out_judged
     out_judged_not room = rw right (out_not card.link.state room)
 
-    pub lent_never_12 : (call : Call) (input : List ℕ) (room : ℕ) → (step_of card call input seen room).reply.outcome ≡ Refused (by 12) → ⊥
+    pub lent_never_12 : (call : Call) (input : List ℕ) (room : ℕ) → (step_of card call input seen room).reply.outcome ≡ Err (by 12) → ⊥
     unfolding frame_stepped
     lent_never_12 (Frame wins selected) input room =
         let same = frame_judged_not wins selected input in
@@ -169,8 +167,8 @@ module _ (card : Card) where
     lent_never_12 PowerOn input room = λ e. clash cc
 
 pub never_12 : (cid csd : List ℕ) (ocr : ℕ) (password : List ℕ) (lent : Lent) (inputs : List Input) (input : Input)
-    → (made_lent cid csd ocr password lent).making ≡ Done
-    → outcome_of (run_of (begun cid csd ocr password lent) inputs) input ≡ Refused (by 12) → ⊥
+    → (made_lent cid csd ocr password lent).making ≡ Ok tt
+    → outcome_of (run_of (begun cid csd ocr password lent) inputs) input ≡ Err (by 12) → ⊥
 never_12 cid csd ocr password lent inputs input e =
     let world : World = run_of (begun cid csd ocr password lent) inputs in
     lent_never_12 world.card (seen world.lent) (made_stays_lent cid csd ocr password lent inputs e)

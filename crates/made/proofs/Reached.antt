@@ -25,7 +25,6 @@ use Rattle.moves.specs.Moves.{move_of}
 use Rattle.moves.specs.Rows.{transfer_row, row_of}
 use Rattle.card_record.specs.Making.{refused_make, password_made, made_of}
 use Rattle.card_record.specs.Power.{fresh_link}
-use Rattle.card_record.specs.declared.Making.TheVariants.{Done}
 use Rattle.states.specs.declared.Incoming.TheVariants.{One}
 use Rattle.states.specs.declared.State.TheVariants.{Stby, Rcv}
 use Rattle.status.specs.Status.{word_of}
@@ -36,6 +35,7 @@ use Rattle.wire.specs.Frames.{crc7_of, sealed, command_frame, fields_of, framing
 use Rattle.wire.specs.Responses.{last_byte, register_right}
 use Rattle.made.specs.Made.{Made}
 use Rattle.made.specs.Run.{World, Input, given, next, run_of, made_lent, begun}
+use Rattle.std.specs.Prelude.{Ok}
 
 -- "CSD is 15 zero bytes and 01, OCR 00FF8000, one erased 8,192-byte memory, map entry 0, no password"
 abbrev pub register : List ℕ
@@ -44,7 +44,7 @@ register = replicate 15 0 ++ (1 ∷ [])
 abbrev pub erased : Lent
 erased = lent_of (replicate 8192 0xFF) (0 ∷ [])
 
-pub made_some : (made_lent register register 0x00FF8000 [] erased).making ≡ Done
+pub made_some : (made_lent register register 0x00FF8000 [] erased).making ≡ Ok tt
 unfolding made_of password_made lock_made_of register_right last_byte crc7_of remainder divide bits entries_right
 made_some = refl
 

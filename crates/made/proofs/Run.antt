@@ -22,7 +22,6 @@ use Rattle.command.specs.declared.Change.TheVariants.{Nothing, Protect, Erase}
 use Rattle.base.specs.Choice.{pick}
 use Rattle.card_record.specs.Record.{csd_protects}
 use Rattle.card_record.specs.declared.Card.{Card}
-use Rattle.card_record.specs.declared.Making.TheVariants.{Done}
 use Rattle.store.proofs.Erased.{erased_length}
 use Rattle.store.proofs.Sectors.{written_length}
 use Rattle.store.specs.Lent.{Lent, seen}
@@ -30,6 +29,7 @@ use Rattle.made.proofs.Kept.{registers_kept}
 use Rattle.made.proofs.Stays.{make_made, step_made}
 use Rattle.made.specs.Made.{Made}
 use Rattle.made.specs.Run.{World, Input, next, run_of, made_lent, begun, SameLengths}
+use Rattle.std.specs.Prelude.{Ok}
 
 -- ---- lengths
 changed_lengths : (card : Card) (change : Change) (lent : Lent) → SameLengths lent (changed_by card change lent)
@@ -75,6 +75,6 @@ run_lengths world (input ∷ inputs) =
     record { memory = rest.memory ∙ one.memory; map = rest.map ∙ one.map }
 
 pub made_stays_made : (cid csd : List ℕ) (ocr : ℕ) (password : List ℕ) (lent : Lent) (inputs : List Input)
-    → (made_lent cid csd ocr password lent).making ≡ Done → Made (run_of (begun cid csd ocr password lent) inputs).card
+    → (made_lent cid csd ocr password lent).making ≡ Ok tt → Made (run_of (begun cid csd ocr password lent) inputs).card
 made_stays_made cid csd ocr password lent inputs e =
     run_made (begun cid csd ocr password lent) inputs (make_made cid csd ocr password (length lent.memory) lent.map e)

@@ -24,8 +24,6 @@ use Rattle.card.specs.declared.Call.TheVariants.{Frame, BlockIn, BlockOut, WorkD
 use Rattle.card_blocks.specs.declared.Stepped.{Stepped}
 use Rattle.command.specs.Command.{met_by, damaged_link, command_of}
 use Rattle.lock.specs.Passwords.{powered_of, lock_made as lock_made_of}
-use Rattle.lock.specs.declared.Making.TheVariants.{Done as LockDone, Refused as LockRefused}
-use Rattle.lock.specs.declared.Making.{Making as LockMaking}
 use Rattle.lock.specs.declared.Lock.{Lock}
 use Rattle.moves.specs.Moves.{in_state}
 use Rattle.moves.specs.Rows.{window}
@@ -39,7 +37,6 @@ use Rattle.card_record.specs.Record.{size_of, with_link}
 use Rattle.card_record.specs.declared.Card.{Card}
 use Rattle.card_record.specs.declared.Link.{Link}
 use Rattle.card_record.specs.declared.Made.{Made as MadeOf}
-use Rattle.card_record.specs.declared.Making.TheVariants.{Done}
 use Rattle.card_record.specs.declared.Registers.{Registers}
 use Rattle.states.specs.declared.State.{State}
 use Rattle.states.specs.declared.State.TheVariants.{Idle, Ready, Ident, Stby, Tran, Data, Rcv, Prg, Dis, Ina}
@@ -57,6 +54,7 @@ use Rattle.made.proofs.Links.{fresh_made, errors_made, damaged_made}
 use Rattle.made.proofs.Locks.{made_made, powered_made}
 use Rattle.made.proofs.Pending.{set_either}
 use Rattle.made.specs.Made.{Waits, MadeRegisters, MadeLock, MadeLink, MadeMode, Made}
+use Rattle.std.specs.Prelude.{Result, Ok, Err, IfOk}
 
 -- ---- commands on a bus, which reach cards in MMC mode alone
 module _ (card : Card) (here : card.mode.spi ≡ false) (made : Made card) where
@@ -181,17 +179,17 @@ step_made card PowerOn input seen room made = powered_on_made card made
 
 -- ---- making
 module _ (registers : Registers) (right : MadeRegisters registers) where
-  locked_by_made : (lock : Lock) (making : LockMaking) → MadeLock lock → (locked_by registers lock making).making ≡ Done → Made (locked_by registers lock making).card
-  locked_by_made lock LockDone m e = record { registers = right; lock = m; link = fresh_made false registers.groups lock.locked; mode = mmc_made fresh_link.state }
-  locked_by_made lock (LockRefused refusal) m e = clash cc
+  locked_by_made : (made : Result Lock Refusal) → IfOk made MadeLock → (locked_by registers made).making ≡ Ok tt → Made (locked_by registers made).card
+  locked_by_made (Ok lock) m e = record { registers = right; lock = m; link = fresh_made false registers.groups lock.locked; mode = mmc_made fresh_link.state }
+  locked_by_made (Err refusal) m e = clash cc
 
-  password_made_lem : (password : List ℕ) → (password_made registers password).making ≡ Done → Made (password_made registers password).card
+  password_made_lem : (password : List ℕ) → (password_made registers password).making ≡ Ok tt → Made (password_made registers password).card
   unfolding password_made
-  password_made_lem password = locked_by_made (lock_made_of password).lock (lock_made_of password).making (made_made password)
+  password_made_lem password = locked_by_made (lock_made_of password) (made_made password)
 
 -- a make that is refused makes nothing
 abbrev Makes : MadeOf → Type 0
-Makes made = made.making ≡ Done → Made made.card
+Makes made = made.making ≡ Ok tt → Made made.card
 
 refused_makes : (refusal : Refusal) → Makes (failed_make refusal)
 refused_makes refusal e = clash cc
@@ -201,7 +199,7 @@ pub whole_groups : (memory : ℕ) → size_allowed memory ≡ true → size_of (
 whole_groups memory allowed = omega (arith, (allowed_size memory allowed).2)
 
 pub make_made : (cid csd : List ℕ) (ocr : ℕ) (password : List ℕ) (memory : ℕ) (map : List ℕ)
-    → (made_of cid csd ocr password memory map).making ≡ Done → Made (made_of cid csd ocr password memory map).card
+    → (made_of cid csd ocr password memory map).making ≡ Ok tt → Made (made_of cid csd ocr password memory map).card
 unfolding made_of
 make_made cid csd ocr password memory map =
     guarded Makes (size_allowed memory) (λ e. refused_makes (by 7))

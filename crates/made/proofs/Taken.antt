@@ -19,8 +19,6 @@ use Rattle.states.specs.declared.Column.{Column}
 use Rattle.states.specs.declared.State.{State}
 use Rattle.states.specs.declared.State.TheVariants as state
 use Rattle.status.specs.ErrorBits.{error_bit}
-use Rattle.status.specs.declared.Fault.{Fault}
-use Rattle.status.specs.declared.Fault.TheVariants.{None, Bit}
 use Rattle.tags.proofs.TagTheorems.{Drops}
 use Rattle.tags.specs.Made.{MadeTags}
 use Rattle.tags.specs.Tagging.{no_tags}
@@ -29,6 +27,8 @@ use Rattle.tags.specs.declared.Tags.{Tags}
 use Rattle.made.proofs.Links.{length_as, at_waits}
 use Rattle.made.specs.Leading.{Leading}
 use Rattle.made.specs.Made.{Waits, MadeLink}
+use Rattle.std.specs.Prelude.{Option, Some, None}
+use Rattle.status.specs.declared.ErrorBit.{ErrorBit}
 
 pub record Meeting : Type 0 where
   pub link : Link
@@ -72,11 +72,11 @@ module _ (c : Meeting) where
   abbrev Checked : ℕ → Column → Tagging → Type 0
   Checked index column t = Right c (after_checks c.link index c.argument column t.tags t.error).link
 
-  checked : (index : ℕ) (column : Column) (tags : Tags) (error : Fault) → Drops (record { tags = tags; error = error })
+  checked : (index : ℕ) (column : Column) (tags : Tags) (error : Option ErrorBit) → Drops (record { tags = tags; error = error })
       → (error ≡ None → Right c (after c index column tags)) → Checked index column (record { tags = tags; error = error })
   unfolding after_checks
   checked index column tags None drops right = right refl
-  checked index column tags (Bit bit) drops right = rw (drops bit refl) faulted
+  checked index column tags (Some bit) drops right = rw (drops bit refl) faulted
 
   tagging_drops : (index : ℕ) → Drops (tagging c index)
   unfolding judged_of
@@ -90,7 +90,7 @@ module _ (c : Meeting) where
   acting index other right column leads =
       rw other
       (guarded (Checked index column) (passes_lock c.met.locked index)
-      (λ t. checked index column no_tags (Bit (error_bit 24)) (λ bit e. refl) (λ e. clash cc))
+      (λ t. checked index column no_tags (Some (error_bit 24)) (λ bit e. refl) (λ e. clash cc))
       (λ t. checked index column (tagging c index).tags (tagging c index).error (tagging_drops index) (right column leads t)))
 
   -- ---- links after a command

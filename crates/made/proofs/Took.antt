@@ -43,11 +43,10 @@ use Rattle.status.specs.ErrorBits.{error_bit}
 use Rattle.status.specs.Status.{no_errors}
 use Rattle.status.specs.declared.ErrorBit.{ErrorBit}
 use Rattle.status.specs.declared.Errors.{Errors}
-use Rattle.status.specs.declared.Fault.{Fault}
-use Rattle.status.specs.declared.Fault.TheVariants.{None, Bit}
 use Rattle.tags.specs.Tagging.{tag_failed}
 use Rattle.tags.specs.declared.Tagging.{Tagging}
 use Rattle.tags.specs.declared.Tags.{Tags}
+use Rattle.std.specs.Prelude.{Option, Some, None}
 
 module _ (link : Link) (met : Met) (index argument : ℕ) where
   -- the link that a command leaves, and what it changes in what is lent
@@ -70,11 +69,11 @@ module _ (link : Link) (met : Met) (index argument : ℕ) where
   abbrev Acting : Acted → Type 0
   Acting acted = Took acted.link acted.change
 
-  checked : (column : Column) (tags : Tags) (fault : Fault) → (judged_of link met.groups met.locked index argument).error ≡ fault
+  checked : (column : Column) (tags : Tags) (fault : Option ErrorBit) → (judged_of link met.groups met.locked index argument).error ≡ fault
       → Acting (after_checks link index argument column tags fault)
   unfolding after_checks obeyed_link
   checked column tags None e = obeyed _ refl e
-  checked column tags (Bit bit) e = stopped tags link.errors
+  checked column tags (Some bit) e = stopped tags link.errors
 
   pub acted_took : (column : Column) → Acting (acted_of link met index argument column)
   unfolding acted_of fresh_link

@@ -1,13 +1,13 @@
 -- A run of calls at one card, by the definitions that its calls promise.
 -- Assumes nothing.
-use Rattle.std.specs.Prelude.{◌≡◌, List, [], ◌∷◌, ℕ, length}
+use Rattle.std.specs.Prelude.{◌≡◌, List, [], ◌∷◌, ℕ, length, Result, Option}
 use Rattle.card.specs.Step.{step_of, lent_after, output_of}
 use Rattle.card.specs.declared.Call.{Call}
-use Rattle.card_blocks.specs.declared.Outcome.{Outcome}
 use Rattle.card_record.specs.Making.{made_of}
 use Rattle.card_record.specs.declared.Card.{Card}
 use Rattle.card_record.specs.declared.Made.{Made}
 use Rattle.store.specs.Lent.{Lent, seen}
+use Rattle.base.specs.declared.Refusal.{Refusal}
 
 -- a card with what it is lent
 pub record World : Type 0 where
@@ -33,7 +33,7 @@ next world input =
     }
 
 -- what becomes of a call, and the output that it leaves
-abbrev pub outcome_of : World → Input → Outcome
+abbrev pub outcome_of : World → Input → Result (Option ℕ) Refusal
 outcome_of world input =
     (step_of world.card input.call input.bytes (seen world.lent) (length input.output)).reply.outcome
 

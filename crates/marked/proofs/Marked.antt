@@ -34,14 +34,14 @@ use Rattle.spi.specs.Hearing.{heard_of}
 use Rattle.status.specs.Status.{word_of}
 use Rattle.store.specs.Lent.{seen_of}
 use Rattle.store.specs.Map.{entries_right}
-use Rattle.wire.specs.Frames.{crc7_of, sealed, fields_of, framing_of, frame_of}
+use Rattle.wire.specs.Frames.{crc7_of, sealed, fields_of, framing_of, frame_of, as_command}
 use Rattle.wire.specs.Responses.{r1_frame}
-use Rattle.wire.specs.declared.Frame.{Frame}
-use Rattle.wire.specs.declared.Frame.TheVariants.{Command, Refused}
-use Rattle.wire.specs.declared.Framing.{Framing}
-use Rattle.wire.specs.declared.Framing.TheVariants.{Framed, Unframed}
 use Rattle.marked.proofs.Transcript.{eight_lines_lem}
 use Rattle.marked.specs.Marked.{card_in, all, marked}
+use Rattle.std.specs.Prelude.{Result, Ok, Err}
+use Rattle.base.specs.declared.Refusal.{Refusal}
+use Rattle.wire.specs.declared.Fields.{Fields}
+use Rattle.wire.specs.declared.Command.{Command}
 
 -- what our card puts on the line for a frame, its select line being low (`selected`) or high, lent a memory of 8,192 bytes and its map
 abbrev pub ours : Bool → Card → List ℕ → List ℕ
@@ -52,30 +52,30 @@ unfolding card_in holding fresh_link card_frame_of frame_judged entries_right he
 marked_hold true = (refl, (refl, (refl, (refl, (refl, (refl, (refl, (refl, (eight_lines_lem, tt)))))))))
 marked_hold false = (refl, (refl, (refl, (refl, (refl, (refl, (refl, (refl, (eight_lines_lem, tt)))))))))
 
-pub refusing : (reply : Card → List ℕ → List ℕ) (sum : List ℕ → ℕ) (play : List ℕ → List ℕ) (n : ℕ) → all (λ f. Refused (refusal_of n)) reply sum play marked → ⊥
+pub refusing : (reply : Card → List ℕ → List ℕ) (sum : List ℕ → ℕ) (play : List ℕ → List ℕ) (n : ℕ) → all (λ f. Err (refusal_of n)) reply sum play marked → ⊥
 refusing reply sum play n h = let e = h.0 in clash cc
 
 -- the framing with every CRC7 taken for right
-abbrev blind : Framing → Frame
-blind (Framed i a right) = Command i a
-blind (Unframed r) = Refused r
+abbrev blind : Result Fields Refusal → Result Command Refusal
+blind (Ok fields) = Ok (as_command fields.index fields.argument)
+blind (Err r) = Err r
 
 pub accepting : (reply : Card → List ℕ → List ℕ) (sum : List ℕ → ℕ) (play : List ℕ → List ℕ)
     → all (λ f. blind (framing_of f)) reply sum play marked → ⊥
 unfolding framing_of fields_of crc7_of remainder divide bits
 accepting reply sum play h = let e = h.1.1.1.1.1.0 in clash cc
 
-pub one_answer : (read : List ℕ → Frame) (line : List ℕ) (sum : List ℕ → ℕ) (play : List ℕ → List ℕ) → all read (λ c f. line) sum play marked → ⊥
+pub one_answer : (read : List ℕ → Result Command Refusal) (line : List ℕ) (sum : List ℕ → ℕ) (play : List ℕ → List ℕ) → all read (λ c f. line) sum play marked → ⊥
 one_answer read line sum play h =
     let e : ◌≡◌ {A = ℕ} 0x10 0x0D = ap (λ (l : List ℕ). get_or l 0 0) (sym h.1.1.1.0 ∙ h.1.1.1.1.0) in omega arith
 
-pub silent_card : (read : List ℕ → Frame) (sum : List ℕ → ℕ) (play : List ℕ → List ℕ) → all read (λ c f. []) sum play marked → ⊥
+pub silent_card : (read : List ℕ → Result Command Refusal) (sum : List ℕ → ℕ) (play : List ℕ → List ℕ) → all read (λ c f. []) sum play marked → ⊥
 silent_card read sum play h = one_answer read [] sum play h
 
-pub little : (read : List ℕ → Frame) (reply : Card → List ℕ → List ℕ) (play : List ℕ → List ℕ)
+pub little : (read : List ℕ → Result Command Refusal) (reply : Card → List ℕ → List ℕ) (play : List ℕ → List ℕ)
     → all read reply (λ p. crc16 p % 256 * 256 + crc16 p / 256) play marked → ⊥
 unfolding crc16 check_sum remainder divide bits
 little read reply play h = let e = h.1.1.1.1.1.1.0 in omega arith
 
-pub mute : (read : List ℕ → Frame) (reply : Card → List ℕ → List ℕ) (sum : List ℕ → ℕ) → all read reply sum (λ s. []) marked → ⊥
+pub mute : (read : List ℕ → Result Command Refusal) (reply : Card → List ℕ → List ℕ) (sum : List ℕ → ℕ) → all read reply sum (λ s. []) marked → ⊥
 mute read reply sum h = let e = ap length h.1.1.1.1.1.1.1.1.0 in omega arith

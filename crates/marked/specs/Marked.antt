@@ -1,7 +1,7 @@
 -- Document 01, "Proved together, and run": the marked examples, one list. Each says what a program makes of some bytes, so that the
 -- statement over the list is one about any reader of frames, any card's answers, any sum of payloads and any program that plays a script.
 -- Assumes nothing.
-use Rattle.std.specs.Prelude.{◌≡◌, List, [], ◌∷◌, ◌++◌, ℕ, replicate}
+use Rattle.std.specs.Prelude.{◌≡◌, List, [], ◌∷◌, ◌++◌, ℕ, replicate, Result, Ok, Err}
 use Rattle.base.specs.Refusals.{by}
 use Rattle.text.specs.Words.{ascii}
 use Rattle.lock.specs.Passwords.{no_password}
@@ -10,12 +10,13 @@ use Rattle.card_record.specs.Record.{with_state}
 use Rattle.card_record.specs.declared.Card.{Card}
 use Rattle.states.specs.declared.State.{State}
 use Rattle.states.specs.declared.State.TheVariants.{Stby, Tran}
-use Rattle.wire.specs.declared.Frame.{Frame}
-use Rattle.wire.specs.declared.Frame.TheVariants.{Command, Refused}
+use Rattle.base.specs.declared.Refusal.{Refusal}
+use Rattle.wire.specs.declared.Command.{Command}
+use Rattle.wire.specs.Frames.{as_command}
 
 pub data Example : Type 0 where
   -- the frame is read so
-  frame : List ℕ → Frame → Example
+  frame : List ℕ → Result Command Refusal → Example
   -- a made card in this state answers the frame so
   answer : State → List ℕ → List ℕ → Example
   -- the payload has this CRC16
@@ -68,17 +69,17 @@ eight_lines =
 abbrev pub marked : List Example
 marked =
     -- "400000000095 is CMD0"
-    frame (0x40 ∷ 0x00 ∷ 0x00 ∷ 0x00 ∷ 0x00 ∷ 0x95 ∷ []) (Command 0 0) ∷
+    frame (0x40 ∷ 0x00 ∷ 0x00 ∷ 0x00 ∷ 0x00 ∷ 0x95 ∷ []) (Ok (as_command 0 0)) ∷
     -- "4D0001000053 is CMD13 to 1"
-    frame (0x4D ∷ 0x00 ∷ 0x01 ∷ 0x00 ∷ 0x00 ∷ 0x53 ∷ []) (Command 13 0x00010000) ∷
+    frame (0x4D ∷ 0x00 ∷ 0x01 ∷ 0x00 ∷ 0x00 ∷ 0x53 ∷ []) (Ok (as_command 13 0x00010000)) ∷
     -- "500000020015 is CMD16 of 512"
-    frame (0x50 ∷ 0x00 ∷ 0x00 ∷ 0x02 ∷ 0x00 ∷ 0x15 ∷ []) (Command 16 512) ∷
+    frame (0x50 ∷ 0x00 ∷ 0x00 ∷ 0x02 ∷ 0x00 ∷ 0x15 ∷ []) (Ok (as_command 16 512)) ∷
     -- "10000009000B answers it"
     answer Tran (0x50 ∷ 0x00 ∷ 0x00 ∷ 0x02 ∷ 0x00 ∷ 0x15 ∷ []) (0x10 ∷ 0x00 ∷ 0x00 ∷ 0x09 ∷ 0x00 ∷ 0x0B ∷ []) ∷
     -- "0D00000700FB answers CMD13 in Stand-by"
     answer Stby (0x4D ∷ 0x00 ∷ 0x01 ∷ 0x00 ∷ 0x00 ∷ 0x53 ∷ []) (0x0D ∷ 0x00 ∷ 0x00 ∷ 0x07 ∷ 0x00 ∷ 0xFB ∷ []) ∷
     -- "400000000097 is refused 3"
-    frame (0x40 ∷ 0x00 ∷ 0x00 ∷ 0x00 ∷ 0x00 ∷ 0x97 ∷ []) (Refused (by 3)) ∷
+    frame (0x40 ∷ 0x00 ∷ 0x00 ∷ 0x00 ∷ 0x00 ∷ 0x97 ∷ []) (Err (by 3)) ∷
     -- "payload 80 has CRC16 9188"
     payload (0x80 ∷ []) 0x9188 ∷
     -- "00 has 0000"
@@ -86,7 +87,7 @@ marked =
     -- "the eight output lines"
     transcript night eight_lines ∷ []
 
-module _ (read : List ℕ → Frame) (reply : Card → List ℕ → List ℕ) (sum : List ℕ → ℕ) (play : List ℕ → List ℕ) where
+module _ (read : List ℕ → Result Command Refusal) (reply : Card → List ℕ → List ℕ) (sum : List ℕ → ℕ) (play : List ℕ → List ℕ) where
   abbrev pub holds : Example → Type 0
   holds (frame bytes is) = read bytes ≡ is
   holds (answer state bytes line) = reply (card_in state) bytes ≡ line

@@ -13,7 +13,6 @@ use native.Mathlib.Omega.{arith}
 use lib.ListN.{get_or, replicate}
 use Rattle.bus.specs.Bus.{with_cards, empty_bus, added_to, command_on, command_at, card_after, frame_from, any_ready, longest_of, cid_line, and_line, line_of, padded, command_for, bus_frame}
 use Rattle.bus.specs.declared.Bus.{Bus}
-use Rattle.bus.specs.declared.Shown.TheVariants.{Line, Silent}
 use Rattle.card_record.specs.Sending.{sent_bytes}
 use Rattle.command.specs.Answers.{response_of, answered}
 use Rattle.command.specs.Arguments.{argument_fault}
@@ -32,15 +31,16 @@ use Rattle.status.specs.Status.{word_of}
 use Rattle.wire.specs.Frames.{crc7_of, sealed, command_frame, fields_of, framing_of}
 use Rattle.wire.specs.Responses.{r1_frame, r2_frame}
 use Rattle.measured_bus.specs.Rounds.{cid_at, ready_card, bus_of, heard, after_rounds, answered_in, addresses_of}
+use Rattle.std.specs.Prelude.{Ok, Some, None}
 
 empty_answered : answered_in (bus_of [] 0) 1 ≡ 1 → ⊥
 unfolding answered_in after_rounds bus_of empty_bus bus_frame
 empty_answered e = omega arith
 
-silence_counted : heard Silent ≡ 1 → ⊥
+silence_counted : heard (Ok None) ≡ 1 → ⊥
 silence_counted e = omega arith
 
-unheard_answer : heard (Line 17) ≡ 0 → ⊥
+unheard_answer : heard (Ok (Some 17)) ≡ 0 → ⊥
 unheard_answer e = omega arith
 
 place_addressed : get_or (addresses_of (bus_of [] 0)) 0 0 ≡ 1 → ⊥

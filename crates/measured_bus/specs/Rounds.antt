@@ -1,10 +1,8 @@
 -- Rounds of CMD2 and CMD3 on a bus of cards in Ready, by what the bus does with a frame (`bus_frame`).
 -- Assumes nothing.
-use Rattle.std.specs.Prelude.{List, [], ◌∷◌, ◌++◌, map, ℕ, zero, suc, ◌+◌, ◌*◌, ◌%◌, take, drop, replicate}
+use Rattle.std.specs.Prelude.{List, [], ◌∷◌, ◌++◌, map, ℕ, zero, suc, ◌+◌, ◌*◌, ◌%◌, take, drop, replicate, Result, Option, Ok, Err, Some, None}
 use Rattle.bus.specs.Bus.{empty_bus, added_to, bus_frame}
 use Rattle.bus.specs.declared.Bus.{Bus}
-use Rattle.bus.specs.declared.Shown.{Shown}
-use Rattle.bus.specs.declared.Shown.TheVariants.{Line, Silent, Refused}
 use Rattle.lock.specs.Passwords.{no_password}
 use Rattle.card_record.specs.Power.{fresh_link, mmc_mode}
 use Rattle.card_record.specs.Record.{with_state}
@@ -12,6 +10,7 @@ use Rattle.card_record.specs.declared.Card.{Card}
 use Rattle.states.specs.declared.State.TheVariants.{Ready}
 use Rattle.wire.specs.Frames.{command_frame}
 use Rattle.measured_bus.specs.declared.Played.{Played}
+use Rattle.base.specs.declared.Refusal.{Refusal}
 
 -- the CIDs of 30 places lie one behind the other; a 31st card has the first's again
 unfoldable pub cid_at : List ℕ → ℕ → List ℕ
@@ -45,10 +44,10 @@ after_rounds bus zero = bus
 after_rounds bus (suc n) = (bus_frame (bus_frame (after_rounds bus n) cmd2).bus (cmd3 (suc n))).bus
 
 -- whether the line shows an answer, as a number
-abbrev pub heard : Shown → ℕ
-heard (Line n) = 1
-heard Silent = 0
-heard (Refused refusal) = 0
+abbrev pub heard : Result (Option ℕ) Refusal → ℕ
+heard (Ok (Some n)) = 1
+heard (Ok None) = 0
+heard (Err refusal) = 0
 
 -- how many CMD2 of n rounds got an answer
 unfoldable pub answered_in : Bus → ℕ → ℕ

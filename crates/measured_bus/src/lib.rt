@@ -6,9 +6,11 @@
 #![tactic(auto)]
 
 ghost use Rattle.std.specs.Prelude.{◌≡◌, ◌≤◌};
+ghost use Rattle.wire.specs.Frames.{command_frame};
 ghost use Rattle.measured_bus.specs.Rounds.{cid_at, ready_card, bus_of, cmd2, cmd3, heard, after_rounds, answered_in, played_on, addresses_of};
 
-use bus::{Bus, Shown};
+use base::Refusal;
+use bus::Bus;
 use card_record::{Card, Link, Registers};
 use states::State;
 
@@ -28,6 +30,7 @@ fn cid_at(cids: &[u8; 480], place: usize) -> [u8; 16]
     cid
 }
 
+#[tactic(auto, unfolding(crate::specs::Rounds::ready_card))]
 fn ready_card(cid: [u8; 16]) -> Card
     ensures { result ≡ ready_card cid }
 {
@@ -50,66 +53,68 @@ fn ready_card(cid: [u8; 16]) -> Card
 }
 
 // A bus with so many cards added, as far as it takes them.
+#[tactic(auto, unfolding(crate::specs::Rounds::bus_of))]
 fn bus_of(cids: &[u8; 480], count: usize) -> Bus
     ensures { result ≡ bus_of cids.now count }
 {
     let mut bus = bus::empty();
-    let mut place: usize = 0;
-    while place < count {
+    for place in 0..count {
         let cid = cid_at(cids, place);
         let card = ready_card(cid);
         let added = bus::add(bus, card);
         bus = added.bus;
-        place += 1;
     }
     bus
+}
+
+fn command(index: u8, argument: u32) -> [u8; 6]
+    requires { index ≤ 63 }
+    ensures { result ≡ command_frame index argument }
+{
+    let mut frame = [0u8; 6];
+    let _ = wire::write_command(index, argument, &mut frame);
+    frame
 }
 
 fn cmd2() -> [u8; 6]
     ensures { result ≡ cmd2 }
 {
-    let mut frame = [0u8; 6];
-    wire::write_command(2, 0, &mut frame);
-    frame
+    command(2, 0)
 }
 
 // CMD3 with the number of the round as the address.
 fn cmd3(round: usize) -> [u8; 6]
     ensures { result ≡ cmd3 round }
 {
-    let argument = (round % 65536) as u32 * 65536;
-    let mut frame = [0u8; 6];
-    wire::write_command(3, argument, &mut frame);
-    frame
+    command(3, (round % 65536) as u32 * 65536)
 }
 
 // How many answers the line shows: one or none.
-fn heard(shown: Shown) -> usize
+fn heard(shown: Result<Option<usize>, Refusal>) -> usize
     ensures answer { result ≡ heard shown }
     ensures few { result ≤ 1 }
 {
     match shown {
-        Shown::Line(_) => 1,
-        Shown::Silent => 0,
-        Shown::Refused(_) => 0,
+        Ok(Some(_)) => 1,
+        Ok(None) => 0,
+        Err(_) => 0,
     }
 }
 
 // So many rounds, each CMD2 and then CMD3.
+#[tactic(auto, unfolding(crate::specs::Rounds::after_rounds, crate::specs::Rounds::answered_in))]
 fn play(bus: Bus, rounds: usize) -> Played
     ensures { result ≡ played_on bus rounds }
 {
     let who = cmd2();
     let mut next = bus;
     let mut answered: usize = 0;
-    let mut k: usize = 0;
-    while k < rounds {
+    for k in 0..rounds {
         let asked = bus::frame(next, &who);
         let shown = asked.shown;
         let found = asked.bus;
         answered += heard(shown);
-        k += 1;
-        let address = cmd3(k);
+        let address = cmd3(k + 1);
         let told = bus::frame(found, &address);
         next = told.bus;
     }
@@ -123,15 +128,7 @@ fn play(bus: Bus, rounds: usize) -> Played
 fn addresses_of(bus: Bus) -> [u16; 30]
     ensures { result ≡ addresses_of bus }
 {
-    let mut addresses = [0; 30];
-    let mut place: usize = 0;
-    while place < 30 {
-        let card = bus.cards[place];
-        let link = card.link;
-        addresses[place] = link.address;
-        place += 1;
-    }
-    addresses
+    bus.cards.map(|card| card.link.address)
 }
 
 // Rounds of CMD2 and CMD3 on a bus of cards in Ready: how many CMD2 got an answer, and the address

@@ -1,22 +1,25 @@
 // How a command moves a card (document 01, "How a card takes a frame"): the class of a command by
 // its index, the row of the table of moves that a command falls in, and the table itself.
 //
-// Offers: `Class`, `class_of`; `Received`, `Row`, `row_of`; `Move`, `next`.
+// Offers: `Class`, `class_of`; `Received`, `Row`, `row_of`; `Move`, `next`; in `entries` what a table
+// of moves holds, for SPI's too.
 #![tactic(auto)]
 
+pub mod entries;
 mod table;
 
 ghost use Rattle.std.specs.Prelude.{◌≡◌};
 ghost use Rattle.moves.specs.Classes.{class_of};
 ghost use Rattle.moves.specs.Moves.{move_of};
 ghost use Rattle.moves.specs.Rows.{own, window, op_cond_row, cid_row, select_row, for_card, transfer_row, row_of};
-ghost use Rattle.moves.specs.Table.{meant_by, entry_in, entry_of, Ruled};
+ghost use Rattle.moves.specs.Table.{entry_of, Ruled};
 
+use entries::entry_in;
 use states::Column;
-use table::{Entry, MOVES};
+use table::MOVES;
 
 // The standard's classes, as far as the base has commands of them.
-#[derive(Clone, Copy)]
+#[derive(Clone, Copy, PartialEq, Eq)]
 pub enum Class {
     Basic,
     BlockRead,
@@ -29,7 +32,7 @@ pub enum Class {
 
 // The rows of the table of moves: the lines of document 01's table in its order, with CMD0 and CMD4
 // in their places, a line with several outcomes in a row for each, and last what no line has.
-#[derive(Clone, Copy)]
+#[derive(Clone, Copy, PartialEq, Eq)]
 pub enum Row {
     // CMD0.
     GoIdleState,
@@ -71,7 +74,7 @@ pub enum Row {
 
 // What a row does in a state: nothing; nothing, and not for this card to judge; nothing but the
 // mark of an illegal command; a move.
-#[derive(Clone, Copy)]
+#[derive(Clone, Copy, PartialEq, Eq)]
 pub enum Move {
     Ignored,
     Silent,
@@ -90,6 +93,7 @@ pub struct Received {
     pub wins: bool,
 }
 
+#[tactic(auto, unfolding(crate::specs::Classes::class_of))]
 pub fn class_of(index: u8) -> Class
     ensures answer { result ≡ class_of index }
 {
@@ -105,54 +109,14 @@ pub fn class_of(index: u8) -> Class
 }
 
 // The table by its rule: the only place that names it.
-fn legal_moves() -> [[Entry; 10]; 20]
+fn legal_moves() -> [[Move; 10]; 20]
     ensures { Ruled result }
 {
     MOVES
 }
 
-// The move that an entry stands for.
-fn meant(entry: Entry) -> Move
-    ensures { result ≡ meant_by entry }
-{
-    match entry {
-        Entry::Idle => Move::To(Column::Idle),
-        Entry::Ready => Move::To(Column::Ready),
-        Entry::Ident => Move::To(Column::Ident),
-        Entry::Stby => Move::To(Column::Stby),
-        Entry::Tran => Move::To(Column::Tran),
-        Entry::Data => Move::To(Column::Data),
-        Entry::Rcv => Move::To(Column::Rcv),
-        Entry::Prg => Move::To(Column::Prg),
-        Entry::Dis => Move::To(Column::Dis),
-        Entry::Ina => Move::To(Column::Ina),
-        Entry::Ignored => Move::Ignored,
-        Entry::Silent => Move::Silent,
-        Entry::Illegal => Move::Illegal,
-    }
-}
-
-// The entry of a line in a state, by a literal place: what is indexed so is read from where the
-// constant stands, and the table is never laid out on the stack.
-fn entry_in(line: [Entry; 10], column: Column) -> Entry
-    ensures { result ≡ entry_in line column }
-{
-    match column {
-        Column::Idle => line[0],
-        Column::Ready => line[1],
-        Column::Ident => line[2],
-        Column::Stby => line[3],
-        Column::Tran => line[4],
-        Column::Data => line[5],
-        Column::Rcv => line[6],
-        Column::Prg => line[7],
-        Column::Dis => line[8],
-        Column::Ina => line[9],
-    }
-}
-
-// The entry of a row in a state, likewise.
-fn entry_at(table: [[Entry; 10]; 20], row: Row, column: Column) -> Entry
+// The entry of a row in a state, by a literal place too (`entry_in`).
+fn entry_at(table: [[Move; 10]; 20], row: Row, column: Column) -> Move
     ensures { result ≡ entry_of table row column }
 {
     match row {
@@ -180,12 +144,11 @@ fn entry_at(table: [[Entry; 10]; 20], row: Row, column: Column) -> Entry
 }
 
 // Where a row leads from a state.
+#[tactic(auto, unfolding(crate::specs::Table::Ruled))]
 pub fn next(row: Row, column: Column) -> Move
     ensures answer { result ≡ move_of row column }
 {
-    let table = legal_moves();
-    let entry = entry_at(table, row, column);
-    meant(entry)
+    entry_at(legal_moves(), row, column)
 }
 
 // CMD1 by its window, bits 23..0.
@@ -239,6 +202,7 @@ fn for_card(asked: Received, row: Row) -> Row
 }
 
 // The rows of the commands of a selected card.
+#[tactic(auto, unfolding(crate::specs::Rows::transfer_row))]
 fn transfer_row(index: u8) -> Row
     ensures { result ≡ transfer_row index }
 {
@@ -252,6 +216,7 @@ fn transfer_row(index: u8) -> Row
 }
 
 // The row that a command falls in at a card.
+#[tactic(auto, unfolding(crate::specs::Rows::row_of))]
 pub fn row_of(asked: Received) -> Row
     ensures answer { result ≡ row_of asked }
 {
@@ -263,8 +228,7 @@ pub fn row_of(asked: Received) -> Row
         3 => Row::SetRelativeAddr,
         4 => Row::SetDsr,
         7 => select(asked),
-        9 => for_card(asked, Row::SendRegister),
-        10 => for_card(asked, Row::SendRegister),
+        9 | 10 => for_card(asked, Row::SendRegister),
         12 => Row::StopTransmission,
         13 => for_card(asked, Row::SendStatus),
         15 => for_card(asked, Row::GoInactiveState),

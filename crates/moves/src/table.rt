@@ -1,53 +1,9 @@
 // Document 01's legal moves as one fixed table: a line for each `Row`, in its order, against the ten
-// states. An entry is one byte and holds nothing.
+// states.
+use crate::Move;
+use crate::entries::{DAT, DIS, IDL, IDT, IGN, ILL, INA, PRG, RCV, RDY, SIL, STB, TRN};
 
-// The state that a command leads to, or the mark of one with no move.
-#[derive(Clone, Copy)]
-pub enum Entry {
-    Idle,
-    Ready,
-    Ident,
-    Stby,
-    Tran,
-    Data,
-    Rcv,
-    Prg,
-    Dis,
-    Ina,
-    Ignored,
-    Silent,
-    Illegal,
-}
-
-const IDL: Entry = Entry::Idle;
-
-const RDY: Entry = Entry::Ready;
-
-const IDT: Entry = Entry::Ident;
-
-const STB: Entry = Entry::Stby;
-
-const TRN: Entry = Entry::Tran;
-
-const DAT: Entry = Entry::Data;
-
-const RCV: Entry = Entry::Rcv;
-
-const PRG: Entry = Entry::Prg;
-
-const DIS: Entry = Entry::Dis;
-
-const INA: Entry = Entry::Ina;
-// No move. Ignored: in Inactive, and by check 4 elsewhere than in tran, data, rcv and prg, where it
-// is illegal; silent: by check 3. Source document 001 marks some of these otherwise
-// (docs/DECISIONS.md, "Where the table of moves departs from source 001").
-const IGN: Entry = Entry::Ignored;
-
-const SIL: Entry = Entry::Silent;
-
-const ILL: Entry = Entry::Illegal;
-
-pub const MOVES: [[Entry; 10]; 20] = [
+pub const MOVES: [[Move; 10]; 20] = [
     // idl  rdy  idt  stb  trn  dat  rcv  prg  dis  ina: the state in which the command comes
     [IDL, IDL, IDL, IDL, IDL, IDL, IDL, IDL, IDL, IGN], // CMD0
     [IDL, SIL, SIL, SIL, SIL, SIL, SIL, SIL, SIL, IGN], // CMD1, window 0

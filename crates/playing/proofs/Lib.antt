@@ -1,4 +1,3 @@
 pub mod Joined
-pub mod Keeping
 pub mod Turns
 pub mod WrongAnswers

@@ -9,16 +9,16 @@ use mathlib.Core.Path.{◌≡◌}
 use Prim.Native.Nat.{ℕ, min}
 use native.Mathlib.Omega.{arith}
 use Rattle.program_io.specs.Reading.{Behind}
-use Rattle.program_io.specs.declared.Got.TheVariants.{Bytes}
+use Rattle.std.specs.Prelude.{Some, Ok}
 
 -- ---- a read
-past_the_buffer : Behind 0 4 (Bytes 5) → ⊥
+past_the_buffer : Behind 0 4 (Ok (Some 5)) → ⊥
 past_the_buffer e = omega (arith, e.1)
 
-none_told : Behind 2 4 (Bytes 2) → ⊥
+none_told : Behind 2 4 (Ok (Some 2)) → ⊥
 none_told e = omega (arith, e.0)
 
-kept_lost : Behind 3 4 (Bytes 1) → ⊥
+kept_lost : Behind 3 4 (Ok (Some 1)) → ⊥
 kept_lost e = omega (arith, e.0)
 
 -- ---- what is handed to the write call

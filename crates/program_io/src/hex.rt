@@ -1,142 +1,72 @@
 // A script as hex text: pairs of hex digits; `#` begins a comment, up to the line's end; spaces may
 // stand anywhere. As `./run` reads it: anything else, and an odd number of digits in a line, is wrong.
 //
-// Offers: `Wrong`, `Place`, `decode`.
-ghost use Rattle.std.specs.Prelude.{◌≤◌, length};
+// Offers: `Wrong`, `digit`, `decode`.
+ghost use Rattle.std.specs.Prelude.{◌≤◌, ◌<◌, length, IfOk, IfSome};
 
-// What is wrong with a text.
-#[derive(Clone, Copy)]
+use std::fmt;
+
+// What is wrong with a text, and in which line.
+#[derive(Clone, Copy, Debug, PartialEq, Eq)]
 pub enum Wrong {
-    Nothing,
-    OddDigits,
-    NoDigit,
-    TooLong,
+    OddDigits { line: u64 },
+    NoDigit { line: u64 },
+    TooLong { line: u64 },
 }
 
-// How far a text is read: the bytes that it gave, the digit that waits for its second, or 16, whether
-// a comment goes on, the line, and what is wrong with it.
-#[derive(Clone, Copy)]
-pub struct Place {
-    pub count: usize,
-    high: u8,
-    comment: bool,
-    pub line: u64,
-    pub wrong: Wrong,
-}
-
-// What a hex digit stands for, or 16 for what is none.
-fn digit(b: u8) -> u8 {
-    match b {
-        b'0'..=b'9' => b - b'0',
-        b'A'..=b'F' => b - b'A' + 10,
-        b'a'..=b'f' => b - b'a' + 10,
-        _ => 16,
-    }
-}
-
-// The end of a line, at which no digit may wait.
-fn line_end(before: Place) -> Place
-    ensures { result.count ≤ before.count }
-{
-    if before.high < 16 {
-        return Place {
-            wrong: Wrong::OddDigits,
-            ..before
-        };
-    }
-    if before.line == u64::MAX {
-        return before;
-    }
-    Place {
-        comment: false,
-        line: before.line + 1,
-        ..before
-    }
-}
-
-// One digit more: the first or the second of a byte.
-fn digit_more(before: Place, d: u8, out: &mut [u8]) -> Place
-    ensures { before.count ≤ length out.old → result.count ≤ length out.old }
-{
-    let n = before.count;
-    let high = before.high;
-    if 15 < high {
-        return Place { high: d, ..before };
-    }
-    if 15 < d {
-        return before;
-    }
-    if out.len() <= n {
-        return Place {
-            wrong: Wrong::TooLong,
-            ..before
-        };
-    }
-    out[n] = high * 16 + d;
-    Place {
-        count: n + 1,
-        high: 16,
-        ..before
-    }
-}
-
-// One character more, behind others with which nothing was wrong.
-fn step(before: Place, b: u8, out: &mut [u8]) -> Place
-    ensures { before.count ≤ length out.old → result.count ≤ length out.old }
-{
-    if b == b'\n' {
-        return line_end(before);
-    }
-    if before.comment {
-        return before;
-    }
-    match b {
-        b' ' | b'\t' | b'\r' => before,
-        b'#' => Place {
-            comment: true,
-            ..before
-        },
-        _ => {
-            let d = digit(b);
-            if 15 < d {
-                return Place {
-                    wrong: Wrong::NoDigit,
-                    ..before
-                };
-            }
-            digit_more(before, d, out)
+impl fmt::Display for Wrong {
+    fn fmt<W: fmt::Write>(&self, f: &mut fmt::Formatter<W>) -> fmt::Result {
+        match self {
+            Wrong::OddDigits { line } => { write!(f, "an odd number of hex digits in line {line}") }
+            Wrong::NoDigit { line } => write!(f, "no hex digit in line {line}"),
+            Wrong::TooLong { line } => write!(f, "too long at line {line}"),
         }
     }
 }
 
-fn is_right(place: Place) -> bool {
-    let wrong = place.wrong;
-    match wrong {
-        Wrong::Nothing => true,
-        Wrong::OddDigits => false,
-        Wrong::NoDigit => false,
-        Wrong::TooLong => false,
-    }
+// What a hex digit stands for.
+pub fn digit(b: u8) -> Option<u8>
+    ensures { IfSome result (λ d. d < 16) }
+{
+    let d = char::from(b).to_digit(16)?;
+    Some(d as u8)
 }
 
-// The bytes of a text at the front of `out`.
-pub fn decode(text: &[u8], out: &mut [u8]) -> Place
-    ensures within { result.count ≤ length out.old }
+// The bytes of a text at the front of `out`: how many. Behind a text that is wrong no byte counts.
+pub fn decode(text: &[u8], out: &mut [u8]) -> Result<usize, Wrong>
+    ensures within { IfOk result (λ n. n ≤ length out.old) }
 {
-    let mut place = Place {
-        count: 0,
-        high: 16,
-        comment: false,
-        line: 1,
-        wrong: Wrong::Nothing,
-    };
-    let mut i: usize = 0;
-    while i < text.len() {
-        place = step(place, text[i], out);
-        if !is_right(place) {
-            return place;
-        }
-        i += 1;
+    let mut n = 0;
+    for (digits, line) in text.split(|b| *b == b'\n').zip(1u64..) {
+        n = decode_line(digits, line, out, n)?;
     }
-    line_end(place)
+    Ok(n)
+}
+
+// The bytes of one line, stored from `from` on: the place after them.
+fn decode_line(text: &[u8], line: u64, out: &mut [u8], from: usize) -> Result<usize, Wrong>
+    requires { from ≤ length out.old }
+    ensures { IfOk result (λ n. n ≤ length out.old) }
+{
+    let mut n = from;
+    let mut high: Option<u8> = None;
+    for b in text.iter().take_while(|b| **b != b'#') {
+        if matches!(b, b' ' | b'\t' | b'\r') {
+            continue;
+        }
+        let d = digit(*b).ok_or(Wrong::NoDigit { line })?;
+        let Some(h) = high.take() else {
+            high = Some(d);
+            continue;
+        };
+        let Some(place) = out.get_mut(n) else {
+            return Err(Wrong::TooLong { line });
+        };
+        *place = h * 16 + d;
+        n += 1;
+    }
+    if high.is_some() {
+        return Err(Wrong::OddDigits { line });
+    }
+    Ok(n)
 }

@@ -16,7 +16,6 @@ use Rattle.base.proofs.Cases.{cases, never}
 use Rattle.bus.specs.Bus.{count_of, cards_of, with_cards, is_ready, cid_line, shown_of, padded, bus_frame}
 use Rattle.bus.specs.declared.Bus.{Bus}
 use Rattle.bus.specs.declared.Framed.{Framed as Answered}
-use Rattle.bus.specs.declared.Shown.TheVariants.{Line, Silent}
 use Rattle.crc.proofs.Bits.{length_octets}
 use Rattle.crc.specs.Bits.{bits_of}
 use Rattle.card_record.specs.Making.{refused_make}
@@ -29,6 +28,7 @@ use Rattle.rounds.proofs.OneRound.{Good, good, good_card, cid_back, among, shows
 use Rattle.rounds.proofs.Reach.{map_on, final, reach_now, reach_not, reach_yet, final_none, ready_from}
 use Rattle.rounds.specs.Demand3.{Round, AllUndamaged, Undamaged, round_at, address_at, before, answer, card_at, identifier, cid_of, ready_identifiers, identifiers, nth, reached, Holds, CidBytes, WellFormed, is_ident, NoneIdentified, Rounds, Demand3}
 use Rattle.rounds.specs.Distinct.{distinct, rank, Ascending}
+use Rattle.std.specs.Prelude.{Ok, Some, None}
 
 -- ---- places of a list
 pub get_d_map : (f : Card → Card) (l : List Card) (i : ℕ) (d : Card) → i < length l → get_or (map f l) i d ≡ f (get_or l i d)
@@ -61,8 +61,8 @@ length_cid : (number : ℕ) → length (cid_of number) ≡ 16
 unfolding cid_of
 length_cid number = length_octets 16 (bits_of 128 number)
 
-shown_17 : (b : ℕ) (cid : List ℕ) → length cid ≡ 16 → shown_of (b ∷ cid) ≡ Line 17
-shown_17 b cid e = ap (λ (n : ℕ). Line (suc n)) e
+shown_17 : (b : ℕ) (cid : List ℕ) → length cid ≡ 16 → shown_of (b ∷ cid) ≡ Ok (Some 17)
+shown_17 b cid e = ap (λ (n : ℕ). Ok (Some (suc n))) e
 
 padded_17 : (line : List ℕ) → length line ≡ 17 → padded line ≡ line
 unfolding padded
@@ -162,14 +162,14 @@ module _ (bus : Bus) (rounds : List Round) (formed : WellFormed bus) (some : 1 �
       (ap (λ (r : Answered). r.shown) is ∙ ap shown_of shows, ap (λ (r : Answered). r.line) is ∙ ap padded shows)
 
   shown_at : (k : ℕ) → k < length rounds → k < length ids
-      → ((answer bus_frame bus rounds k).shown ≡ Line 17) × ((answer bus_frame bus rounds k).line ≡ 0x3F ∷ cid_of (nth bus k))
+      → ((answer bus_frame bus rounds k).shown ≡ Ok (Some 17)) × ((answer bus_frame bus rounds k).line ≡ 0x3F ∷ cid_of (nth bus k))
   shown_at k h b =
       let e = shows_first (left k) (good_left k) (nth bus k) (drop (suc k) ids) (ids_left k h ∙ drop-cons ids k 0 b) in
       let r = answer_is k h (0x3F ∷ cid_of (nth bus k)) e in
       let n = length_cid (nth bus k) in
       (r.0 ∙ shown_17 0x3F (cid_of (nth bus k)) n, r.1 ∙ padded_17 (0x3F ∷ cid_of (nth bus k)) (ap suc n))
 
-  silent_at : (k : ℕ) → k < length rounds → length ids ≤ k → (answer bus_frame bus rounds k).shown ≡ Silent
+  silent_at : (k : ℕ) → k < length rounds → length ids ≤ k → (answer bus_frame bus rounds k).shown ≡ Ok None
   silent_at k h b = (answer_is k h [] (shows_none (left k) (good_left k) (ids_left k h ∙ drop_of_length-le ids b))).0
 
   same_after : (k : ℕ) → length ids ≤ k → before bus_frame bus rounds (suc k) ≡ before bus_frame bus rounds k

@@ -21,20 +21,20 @@ use Rattle.bus.specs.Bus.{most, count_of, cards_of, with_cards, empty_bus, added
 use Rattle.bus.specs.declared.Added.{Added}
 use Rattle.bus.specs.declared.Bus.{Bus}
 use Rattle.bus.specs.declared.Framed.{Framed as Answered}
-use Rattle.bus.specs.declared.Taken.{Taken}
 use Rattle.command.specs.declared.Commanded.{Commanded}
 use Rattle.made.proofs.Stays.{command_made, damage_made}
-use Rattle.base.proofs.Cases.{cases, picked, never, guarded}
+use Rattle.base.proofs.Cases.{cases, picked, clash, guarded}
 use Rattle.made.specs.Made.{Made}
 use Rattle.moves.specs.Indices.{among}
 use Rattle.card_record.specs.Making.{refused_make}
 use Rattle.card_record.specs.Record.{with_link}
 use Rattle.card_record.specs.declared.Card.{Card}
 use Rattle.wire.specs.Frames.{framing_of}
-use Rattle.wire.specs.declared.Framing.{Framing}
-use Rattle.wire.specs.declared.Framing.TheVariants.{Framed, Unframed}
 use Rattle.rounds.proofs.Demand3.{in_place}
 use Rattle.rounds.specs.MadeBus.{MadeBus}
+use Rattle.std.specs.Prelude.{Result, Ok, Err, Option, Some}
+use Rattle.base.specs.declared.Refusal.{Refusal}
+use Rattle.wire.specs.declared.Fields.{Fields}
 
 -- ---- lists of cards
 -- the cards of a bus after each is changed, however many places there are
@@ -88,10 +88,10 @@ module _ (bus : Bus) (made : MadeBus bus) where
       guarded Keeps (among index bus_indices) (λ e. made)
       (λ e. each_made (card_after (cards_of bus) index argument) (commanded_card (cards_of bus) index argument) bus made)
 
-  framed_made : (framing : Framing) → Keeps (framed_on bus framing)
-  framed_made (Unframed refusal) = made
-  framed_made (Framed index argument right) =
-      guarded Keeps right (λ e. each_made damaged_card damaged_card_lem bus made) (λ e. commanded_made index argument)
+  framed_made : (framing : Result Fields Refusal) → Keeps (framed_on bus framing)
+  framed_made (Err refusal) = made
+  framed_made (Ok fields) =
+      guarded Keeps fields.crc_right (λ e. each_made damaged_card damaged_card_lem bus made) (λ e. commanded_made fields.index fields.argument)
 
   pub bus_made : (frame : List ℕ) → MadeBus (bus_frame bus frame).bus
   unfolding bus_frame
@@ -117,15 +117,17 @@ module _ (bus : Bus) (made : MadeBus bus) where
       (set_among (count_of bus) place bus.cards card z k))
 
   -- the 30 places are what the type of a bus says
-  pub taken_made : length bus.cards ≡ 30 → (place : ℕ) → (taken_from bus place).found ≡ true → Made (taken_from bus place).card
+  pub taken_made : length bus.cards ≡ 30 → (place : ℕ) → (card : Card) → taken_from bus place ≡ Some card → Made card
   unfolding taken_from
   taken_made n place =
-      guarded (λ (taken : Taken). taken.found ≡ true → Made taken.card) (ltb place (count_of bus)) (λ e no. never no)
-      (λ e yes.
+      guarded (λ (taken : Option Card). (card : Card) → taken ≡ Some card → Made card) (ltb place (count_of bus)) (λ e card no. clash cc)
+      (λ e card yes.
+      let is : get_or bus.cards place refused_make ≡ card = cc in
       let here = ltb-true place (count_of bus) e in
       let count = length-take-le (count_of bus) bus.cards (omega arith) in
-      subst Made (get_or-take (count_of bus) bus.cards place refused_make here)
-      (made (get_or (cards_of bus) place refused_make) (in_place (cards_of bus) place refused_make (omega arith))))
+      subst Made is
+      (subst Made (get_or-take (count_of bus) bus.cards place refused_make here)
+      (made (get_or (cards_of bus) place refused_make) (in_place (cards_of bus) place refused_make (omega arith)))))
 
 pub empty_made : MadeBus empty_bus
 unfolding empty_bus

@@ -21,11 +21,12 @@ use Rattle.bus.specs.declared.Bus.{Bus}
 use Rattle.bus.specs.declared.Framed.{Framed as Answered}
 use Rattle.card_record.specs.declared.Card.{Card}
 use Rattle.wire.proofs.FrameTheorems.{framing}
-use Rattle.wire.specs.Frames.{framing_of, frame_of}
-use Rattle.wire.specs.declared.Frame.TheVariants.{Command}
-use Rattle.wire.specs.declared.Framing.{Framing}
+use Rattle.wire.specs.Frames.{framing_of, frame_of, as_command}
 use Rattle.rounds.proofs.OneRound.{cid_round, address_round, round, cid_commands, address_commands}
 use Rattle.rounds.specs.Demand3.{Round, IsCmd2, IsCmd3, Undamaged, AllUndamaged, round_of, rounds_of, before}
+use Rattle.std.specs.Prelude.{Result, Ok}
+use Rattle.base.specs.declared.Refusal.{Refusal}
+use Rattle.wire.specs.declared.Fields.{Fields}
 
 abbrev pub Filled : Bus → Type 0
 Filled bus = (length bus.cards ≡ 30) × (1 ≤ count_of bus)
@@ -67,11 +68,11 @@ unfolding with_cards
 rest_with bus cards e = drop_at cards (drop (length cards) bus.cards) (count_of bus) e ∙ ap (λ (n : ℕ). drop n bus.cards) e
 
 -- ---- frames
-frame_is : (bus : Bus) → 1 ≤ count_of bus → (frame : List ℕ) (index argument : ℕ) → frame_of frame ≡ Command index argument
+frame_is : (bus : Bus) → 1 ≤ count_of bus → (frame : List ℕ) (index argument : ℕ) → frame_of frame ≡ Ok (as_command index argument)
     → bus_frame bus frame ≡ command_for bus index argument
 unfolding bus_frame frame_of
 frame_is bus some frame index argument read =
-    ap₂ (λ (t : Bool) (g : Framing). unless t (refused_on bus (by 13)) (framed_on bus g)) (le-leb 1 (count_of bus) some)
+    ap₂ (λ (t : Bool) (g : Result Fields Refusal). unless t (refused_on bus (by 13)) (framed_on bus g)) (le-leb 1 (count_of bus) some)
     (framing (framing_of frame) index argument read)
 
 -- CMD2: the bus that it leaves, what is shown, and the line

@@ -11,18 +11,16 @@ use Prim.Native.Nat.{ℕ, ◌≤◌, ◌<◌}
 use borrow.Author.Tests.{le-leb}
 use lib.Dec.{eqb}
 use lib.ListN.{length, get_or}
-use Rattle.base.proofs.Cases.{cases}
+use Rattle.base.proofs.Cases.{guarded, cases}
 use Rattle.base.specs.Choice.{pick, unless}
 use Rattle.base.specs.Refusals.{by}
 use Rattle.bus.proofs.InSpi.{spi_stays}
 use Rattle.bus.specs.Bus.{count_of, cards_of, with_cards, wins_line, command_on, command_at, card_after, bus_indices, refused_on, damaged_card, command_for, framed_on, bus_frame}
 use Rattle.bus.specs.declared.Bus.{Bus}
 use Rattle.bus.specs.declared.Framed.{Framed as Answered}
-use Rattle.bus.specs.declared.Shown.TheVariants.{Refused}
 use Rattle.card.specs.Frame.{FrameJudged, commanded, framed, frame_told, frame_stepped}
 use Rattle.card.specs.Step.{step_of}
 use Rattle.card.specs.declared.Call.TheVariants.{Frame}
-use Rattle.card_blocks.specs.declared.Outcome.TheVariants.{Done, Refused as NotTaken}
 use Rattle.card_blocks.specs.declared.Stepped.{Stepped}
 use Rattle.command.specs.Answers.{silent}
 use Rattle.command.specs.Command.{met_by, damaged_link, command_of}
@@ -41,13 +39,13 @@ use Rattle.spi.proofs.Laws.{spi_high}
 use Rattle.spi.specs.Hearing.{unheard, heard_in_mmc, heard_of, damaged_of}
 use Rattle.spi.specs.declared.Heard.{Heard}
 use Rattle.store.specs.Lent.{Lent, seen, lending_of}
-use Rattle.store.specs.declared.Lending.TheVariants.{Right}
-use Rattle.wire.specs.Frames.{framing_of, checked, frame_of}
-use Rattle.wire.specs.declared.Framing.{Framing}
-use Rattle.wire.specs.declared.Framing.TheVariants.{Framed, Unframed}
+use Rattle.wire.specs.Frames.{framing_of, checked, frame_of, as_fields}
 use Rattle.rounds.proofs.Demand3.{get_d_map}
 use Rattle.rounds.proofs.MadeBus.{changed}
 use Rattle.rounds.specs.Demand3.{card_at}
+use Rattle.std.specs.Prelude.{Result, Ok, Err, None}
+use Rattle.base.specs.declared.Refusal.{Refusal}
+use Rattle.wire.specs.declared.Fields.{Fields}
 
 -- ---- a command for the bus
 -- it sets and clears no group, and erases nothing
@@ -82,45 +80,49 @@ unit_commanded cards card frame lent out index argument reads listed =
 
 -- ---- any frame
 -- what a frame leaves of one of these cards
-abbrev after_framing : List Card → Framing → Card → Card
-after_framing cards (Unframed refusal) card = card
-after_framing cards (Framed index argument true) card = card_after cards index argument card
-after_framing cards (Framed index argument false) card = damaged_card card
+abbrev after_framing : List Card → Result Fields Refusal → Card → Card
+after_framing cards (Err refusal) card = card
+after_framing cards (Ok fields) card = unless fields.crc_right (damaged_card card) (card_after cards fields.index fields.argument card)
 
 unchanged : (cards : List Card) → map (λ (card : Card). card) cards ≡ cards
 unchanged [] = refl
 unchanged (card ∷ cards) = ap (λ (l : List Card). card ∷ l) (unchanged cards)
 
-module _ (bus : Bus) (frame : List ℕ) (some : 1 ≤ count_of bus) (heard : (bus_frame bus frame).shown ≡ Refused (by 14) → ⊥) where
+module _ (bus : Bus) (frame : List ℕ) (some : 1 ≤ count_of bus) (heard : (bus_frame bus frame).shown ≡ Err (by 14) → ⊥) where
   reached : bus_frame bus frame ≡ framed_on bus (framing_of frame)
   unfolding bus_frame
   reached = ap (λ (t : Bool). unless t (refused_on bus (by 13)) (framed_on bus (framing_of frame))) (le-leb 1 (count_of bus) some)
 
-  listed : (index argument : ℕ) → framing_of frame ≡ Framed index argument true → among index bus_indices ≡ true
+  listed : (index argument : ℕ) → framing_of frame ≡ Ok (as_fields index argument true) → among index bus_indices ≡ true
   unfolding command_for
   listed index argument e =
       cases (among index bus_indices) (λ t. t)
       (λ t.
-      let refused : (framed_on bus (Framed index argument true)).shown ≡ Refused (by 14) = rw t in
-      absurd (heard (ap (λ (a : Answered). a.shown) reached ∙ ap (λ (f : Framing). (framed_on bus f).shown) e ∙ refused)))
+      let refused : (framed_on bus (Ok (as_fields index argument true))).shown ≡ Err (by 14) = rw t in
+      absurd (heard (ap (λ (a : Answered). a.shown) reached ∙ ap (λ (f : Result Fields Refusal). (framed_on bus f).shown) e ∙ refused)))
 
   -- each card changed
   each_after : (f : Card → Card) → cards_of (with_cards bus (map f (cards_of bus))) ≡ map f (cards_of bus)
   unfolding with_cards
   each_after f = changed f (count_of bus) bus.cards
 
-  framed_after : (framing : Framing) → framing_of frame ≡ framing
-      → cards_of (framed_on bus framing).bus ≡ map (after_framing (cards_of bus) framing) (cards_of bus)
-  unfolding command_for
-  framed_after (Unframed refusal) e = sym (unchanged (cards_of bus))
-  framed_after (Framed index argument true) e = rw (listed index argument e) (each_after (card_after (cards_of bus) index argument))
-  framed_after (Framed index argument false) e = each_after damaged_card
+  abbrev After : Result Fields Refusal → Type 0
+  After framing = cards_of (framed_on bus framing).bus ≡ map (after_framing (cards_of bus) framing) (cards_of bus)
 
-  module _ (cards : List Card) (card : Card) (lent : Lent) (out : List ℕ) (right : lending_of (seen lent) card.registers.groups ≡ Right) where
+  fields_after : (index argument : ℕ) (right : Bool) → framing_of frame ≡ Ok (as_fields index argument right) → After (Ok (as_fields index argument right))
+  unfolding command_for
+  fields_after index argument true e = rw (listed index argument e) (each_after (card_after (cards_of bus) index argument))
+  fields_after index argument false e = each_after damaged_card
+
+  framed_after : (framing : Result Fields Refusal) → framing_of frame ≡ framing → After framing
+  framed_after (Err refusal) e = sym (unchanged (cards_of bus))
+  framed_after (Ok fields) e = fields_after fields.index fields.argument fields.crc_right e
+
+  module _ (cards : List Card) (card : Card) (lent : Lent) (out : List ℕ) (right : lending_of (seen lent) card.registers.groups ≡ Ok tt) where
     abbrev wins : Bool
     wins = wins_line cards card
 
-    stepped_as : (framing : Framing) → framing_of frame ≡ framing
+    stepped_as : (framing : Result Fields Refusal) → framing_of frame ≡ framing
         → (frame_stepped card wins false frame (seen lent)).card
         ≡ (frame_told card (seen lent) (framed card wins false framing)).card
     unfolding frame_stepped
@@ -129,30 +131,37 @@ module _ (bus : Bus) (frame : List ℕ) (some : 1 ≤ count_of bus) (heard : (bu
 
     -- a damaged frame sets bit 23 in both
     damaged_mmc : card.mode.spi ≡ false → (index argument : ℕ)
-        → (frame_told card (seen lent) (framed card wins false (Framed index argument false))).card ≡ damaged_card card
+        → (frame_told card (seen lent) (framed card wins false (Ok (as_fields index argument false)))).card ≡ damaged_card card
     unfolding damaged_of
     damaged_mmc here index argument =
         ap (λ (h : Bool). (frame_told card (seen lent)
         (unless (false || (h && (not card.mode.checks && not (eqb index 0))))
-        (commanded card (NotTaken (by 3))
+        (commanded card (Err (by 3))
         (pick h (unheard card.mode card.link) (unheard card.mode (damaged_link card.link))))
-        (commanded card Done (heard_of card.mode false card.link (met_by card wins) index argument)))).card) here
+        (commanded card (Ok None) (heard_of card.mode false card.link (met_by card wins) index argument)))).card) here
         ∙ ap (λ (h : Bool). pick h card (with_link card (damaged_link card.link))) (sym here)
 
-    unit_in_mmc : card.mode.spi ≡ false → (framing : Framing) → framing_of frame ≡ framing
-        → (frame_stepped card wins false frame (seen lent)).card ≡ after_framing cards framing card
+    abbrev Unit_after : Result Fields Refusal → Type 0
+    Unit_after framing = (frame_stepped card wins false frame (seen lent)).card ≡ after_framing cards framing card
+
+    fields_in_mmc : card.mode.spi ≡ false → (index argument : ℕ) (crc : Bool) → framing_of frame ≡ Ok (as_fields index argument crc)
+        → Unit_after (Ok (as_fields index argument crc))
     unfolding frame_of card_after
-    unit_in_mmc here (Unframed refusal) e = stepped_as (Unframed refusal) e
-    unit_in_mmc here (Framed index argument true) e =
+    fields_in_mmc here index argument true e =
         ap (λ (s : Stepped). s.card)
         (unit_commanded cards card frame lent out index argument (record { right = right; command = ap checked e }) (listed index argument e)).step
-    unit_in_mmc here (Framed index argument false) e = stepped_as (Framed index argument false) e ∙ damaged_mmc here index argument
+    fields_in_mmc here index argument false e = stepped_as (Ok (as_fields index argument false)) e ∙ damaged_mmc here index argument
+
+    unit_in_mmc : card.mode.spi ≡ false → (framing : Result Fields Refusal) → framing_of frame ≡ framing → Unit_after framing
+    unit_in_mmc here (Err refusal) e = stepped_as (Err refusal) e
+    unit_in_mmc here (Ok fields) e = fields_in_mmc here fields.index fields.argument fields.crc_right e
 
     -- in SPI neither hears any frame
-    kept_in_spi : card.mode.spi ≡ true → (framing : Framing) → after_framing cards framing card ≡ card
-    kept_in_spi here (Unframed refusal) = refl
-    kept_in_spi here (Framed index argument true) = (spi_stays card here cards index argument).0
-    kept_in_spi here (Framed index argument false) = (spi_stays card here cards index argument).1
+    kept_in_spi : card.mode.spi ≡ true → (framing : Result Fields Refusal) → after_framing cards framing card ≡ card
+    kept_in_spi here (Err refusal) = refl
+    kept_in_spi here (Ok fields) =
+        guarded (λ (after : Card). after ≡ card) fields.crc_right (λ t. (spi_stays card here cards fields.index fields.argument).1)
+        (λ t. (spi_stays card here cards fields.index fields.argument).0)
 
     unit_in_spi : card.mode.spi ≡ true → (frame_stepped card wins false frame (seen lent)).card ≡ card
     unfolding damaged_of
@@ -160,7 +169,7 @@ module _ (bus : Bus) (frame : List ℕ) (some : 1 ≤ count_of bus) (heard : (bu
         (stepped_stays card wins false (λ index argument. spi_high card.mode card.link (met_by card wins) index argument here)
         (ap (λ (h : Bool). pick h (unheard card.mode card.link) (unheard card.mode (damaged_link card.link))) here) frame (seen lent)).0
 
-    unit_after : (framing : Framing) → framing_of frame ≡ framing
+    unit_after : (framing : Result Fields Refusal) → framing_of frame ≡ framing
         → (frame_stepped card wins false frame (seen lent)).card ≡ after_framing cards framing card
     unit_after framing e =
         cases card.mode.spi
@@ -168,7 +177,7 @@ module _ (bus : Bus) (frame : List ℕ) (some : 1 ≤ count_of bus) (heard : (bu
         (λ (here : card.mode.spi ≡ false). unit_in_mmc here framing e)
 
   pub unit_is_card : (place : ℕ) (lent : Lent) (out : List ℕ) → place < length (cards_of bus)
-      → lending_of (seen lent) (card_at bus place).registers.groups ≡ Right
+      → lending_of (seen lent) (card_at bus place).registers.groups ≡ Ok tt
       → (step_of (card_at bus place) (Frame (wins_line (cards_of bus) (card_at bus place)) false) frame (seen lent) (length out)).card
       ≡ card_at (bus_frame bus frame).bus place
   unit_is_card place lent out there right =

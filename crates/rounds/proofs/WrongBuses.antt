@@ -21,8 +21,6 @@ use Rattle.base.proofs.Cases.{never}
 use Rattle.base.specs.Choice.{pick}
 use Rattle.bus.specs.Bus.{cards_of, with_cards, command_on, command_at, card_after, frame_from, any_ready, longest_of, cid_line, and_line, line_of, padded, command_for, bus_frame}
 use Rattle.bus.specs.declared.Bus.{Bus}
-use Rattle.bus.specs.declared.Shown.{Shown}
-use Rattle.bus.specs.declared.Shown.TheVariants.{Line, Silent}
 use Rattle.card_record.specs.Sending.{sent_bytes}
 use Rattle.command.specs.Answers.{response_of, answered}
 use Rattle.command.specs.Arguments.{argument_fault}
@@ -48,6 +46,8 @@ use Rattle.wire.specs.Responses.{r1_frame, r2_frame}
 use Rattle.rounds.proofs.Undamaged.{written, Fitting, written_undamaged}
 use Rattle.rounds.specs.Demand3.{Step, Round, AllUndamaged, rounds_of, answer, before, card_at, ready_identifiers, identifiers, reached, CidBytes, WellFormed, NoneIdentified, Rounds, Demand3}
 use Rattle.rounds.specs.Distinct.{insert, distinct}
+use Rattle.std.specs.Prelude.{Result, Option, Ok, Some, None}
+use Rattle.base.specs.declared.Refusal.{Refusal}
 
 -- ---- the sample
 -- a card in Ready whose CID is 15 zeros and a last byte
@@ -126,7 +126,7 @@ two_distinct = refl
 
 -- ---- a bus that does nothing
 abbrev idle : Step
-idle bus frame = record { bus = bus; shown = Silent; line = replicate 17 0 }
+idle bus frame = record { bus = bus; shown = Ok None; line = replicate 17 0 }
 
 pub idle_refuted : Demand3 idle → ⊥
 idle_refuted d =
@@ -165,17 +165,17 @@ hasty says bus frame =
     }
 
 -- where it shows what ours would for its cards, round 1 has the right answer, and round 2 has none
-abbrev shown_by : ℕ → Shown
+abbrev shown_by : ℕ → Result (Option ℕ) Refusal
 shown_by k = (answer (hasty bus_frame) two (rounds 0 0) k).shown
 
-hasty_shows : (shown_by 0 ≡ Line 17) × (shown_by 1 ≡ Silent)
+hasty_shows : (shown_by 0 ≡ Ok (Some 17)) × (shown_by 1 ≡ Ok None)
 unfolding hasty rounds_of refused_make holding command_frame sealed crc7_of remainder divide bits bus_frame framing_of fields_of command_for with_cards line_of cid_line and_line frame_from any_ready longest_of sent_bytes r1_frame r2_frame card_after command_at command_on command_of taken_of acted_of after_checks judged_of tagging_of argument_fault reset_told obeyed awaited_by change_of response_of answered word_of class_of move_of row_of transfer_row line contested wins together padded
 hasty_shows = (refl, refl)
 
 pub hasty_refuted : Demand3 (hasty bus_frame) → ⊥
 hasty_refuted d =
     let n = two_distinct in
-    let e : shown_by 1 ≡ Line 17 = ((zero_rounds (hasty bus_frame) d).shows 1 (omega arith) (omega arith)).0 in
+    let e : shown_by 1 ≡ Ok (Some 17) = ((zero_rounds (hasty bus_frame) d).shows 1 (omega arith) (omega arith)).0 in
     let f = hasty_shows.1 in
     let z : ◌≡◌ {A = ℕ} 0 1 = cc in
     omega arith
@@ -196,7 +196,7 @@ hasty_late says d =
 unfoldable pub strict : Step
 strict bus frame = pick (eqb (get_or frame 4 0) 0) (bus_frame bus frame) (idle bus frame)
 
-strict_shows : (answer strict two (rounds 1 0) 0).shown ≡ Silent
+strict_shows : (answer strict two (rounds 1 0) 0).shown ≡ Ok None
 unfolding strict rounds_of command_frame sealed crc7_of remainder divide
 strict_shows = refl
 

@@ -1,19 +1,18 @@
 -- The consequences of demand 3, in the mission's words: a clone is a missing round, and an address that two cards share. As there, a card in Ready
 -- is one in MMC mode: of two cards of one CID, of which one is in SPI, the rounds tell nothing.
 -- Assumes nothing.
-use Rattle.std.specs.Prelude.{Bool, true, false, List, ◌↔◌, ◌≡◌, ℕ, zero, suc, ◌≤◌, ◌<◌, length}
+use Rattle.std.specs.Prelude.{Bool, true, false, List, ◌↔◌, ◌≡◌, ℕ, zero, suc, ◌≤◌, ◌<◌, length, Result, Option, Ok, Err, Some, None}
 use Rattle.base.specs.Choice.{pick}
 use Rattle.bus.specs.Bus.{count_of, cards_of, is_ready}
 use Rattle.bus.specs.declared.Bus.{Bus}
-use Rattle.bus.specs.declared.Shown.{Shown}
-use Rattle.bus.specs.declared.Shown.TheVariants.{Line, Silent, Refused}
 use Rattle.rounds.specs.Demand3.{Step, Round, rounds_of, address_at, answer, card_at, ready_identifiers, identifiers}
+use Rattle.base.specs.declared.Refusal.{Refusal}
 
 -- whether the line showed an answer
-abbrev pub is_answer : Shown → Bool
-is_answer (Line n) = true
-is_answer Silent = false
-is_answer (Refused refusal) = false
+abbrev pub is_answer : Result (Option ℕ) Refusal → Bool
+is_answer (Ok (Some n)) = true
+is_answer (Ok None) = false
+is_answer (Err refusal) = false
 
 -- how many of n things, counted from 0, pass a test
 unfoldable pub count_if : (ℕ → Bool) → ℕ → ℕ

@@ -12,13 +12,12 @@
 -- `Demand3 step` is said of any bus that answers frames, `step`, so that wrong ones can be refuted (proofs/WrongBuses.antt). That it holds
 -- of ours, `bus_frame`, which the promise of the call `bus::frame` names, is `demand3` in proofs/Demand3.antt.
 -- Assumes nothing.
-use Rattle.std.specs.Prelude.{Bool, true, false, not, ◌&&◌, ◌↔◌, ◌≡◌, ℕ, suc, ◌/◌, ◌≤◌, ◌<◌, eqb, length, take, drop, get_or}
+use Rattle.std.specs.Prelude.{Bool, true, false, not, ◌&&◌, ◌↔◌, ◌≡◌, ℕ, suc, ◌/◌, ◌≤◌, ◌<◌, eqb, length, take, drop, get_or, Ok, Some, None}
 use mathlib.Core.List.{List, [], ◌∷◌, Memᴰ}
 use Rattle.base.specs.Choice.{pick}
 use Rattle.bus.specs.Bus.{count_of, cards_of, is_ready}
 use Rattle.bus.specs.declared.Bus.{Bus}
 use Rattle.bus.specs.declared.Framed.{Framed}
-use Rattle.bus.specs.declared.Shown.TheVariants.{Line, Silent}
 use Rattle.crc.specs.Bits.{bits_of, bits, spelt, octets}
 use Rattle.card_record.specs.Making.{refused_make}
 use Rattle.card_record.specs.Record.{with_link}
@@ -28,8 +27,7 @@ use Rattle.states.specs.States.{column_of, column_number}
 use Rattle.states.specs.declared.State.TheVariants.{Stby}
 use Rattle.status.specs.Status.{no_errors}
 use Rattle.tags.specs.Tagging.{no_tags}
-use Rattle.wire.specs.Frames.{frame_of}
-use Rattle.wire.specs.declared.Frame.TheVariants.{Command}
+use Rattle.wire.specs.Frames.{frame_of, as_command}
 use Rattle.rounds.specs.Distinct.{distinct, rank, Ascending}
 
 -- ---- rounds
@@ -45,11 +43,11 @@ pub record Round : Type 0 where
 
 -- bytes that are read as CMD2, undamaged, by the promise of the call `wire::read_frame`. Its argument may be any: no card reads it
 abbrev pub IsCmd2 : List ℕ → Type 0
-IsCmd2 frame = (argument : ℕ) × (frame_of frame ≡ Command 2 argument)
+IsCmd2 frame = (argument : ℕ) × (frame_of frame ≡ Ok (as_command 2 argument))
 
 -- bytes that are read as CMD3 with an address, "argument bits 31..16". Bits 15..0 may be any: no card reads them
 abbrev pub IsCmd3 : ℕ → List ℕ → Type 0
-IsCmd3 address frame = (argument : ℕ) × ((frame_of frame ≡ Command 3 argument) × (argument / 65536 ≡ address))
+IsCmd3 address frame = (argument : ℕ) × ((frame_of frame ≡ Ok (as_command 3 argument)) × (argument / 65536 ≡ address))
 
 -- an undamaged round: "an undamaged CMD2", and "an undamaged CMD3" with the round's address, which is not 0. Those that our frame writer
 -- writes are such (`written_undamaged` in proofs/Undamaged.antt)
@@ -151,7 +149,7 @@ pub record Rounds (step : Step) (bus : Bus) (rounds : List Round) : Type 0 where
   pub cid : (place : ℕ) → place < count_of bus → cid_of (identifier (card_at bus place)) ≡ (card_at bus place).registers.cid
   -- while any are left, round k shows the k-th: the answer of CMD2 is R2 of 17 bytes, 3F and then that CID
   pub shows : (k : ℕ) → k < length rounds → k < length (identifiers bus)
-      → ((answer step bus rounds k).shown ≡ Line 17) × ((answer step bus rounds k).line ≡ 0x3F ∷ cid_of (nth bus k))
+      → ((answer step bus rounds k).shown ≡ Ok (Some 17)) × ((answer step bus rounds k).line ≡ 0x3F ∷ cid_of (nth bus k))
   -- and the cards that began in Ready and hold it go to Stand-by with that round's address, all else being as it began
   pub reaches : (k : ℕ) → k < length rounds → k < length (identifiers bus)
       → (place : ℕ) → place < count_of bus → Holds bus place (nth bus k)
@@ -167,7 +165,7 @@ pub record Rounds (step : Step) (bus : Bus) (rounds : List Round) : Type 0 where
       × (card_at (before step bus rounds (suc j)) place ≡ reached (address_at rounds j) (card_at bus place))
   -- after the last, CMD2 gets no answer, and a round changes nothing on the bus
   pub last : (k : ℕ) → k < length rounds → length (identifiers bus) ≤ k
-      → ((answer step bus rounds k).shown ≡ Silent) × (before step bus rounds (suc k) ≡ before step bus rounds k)
+      → ((answer step bus rounds k).shown ≡ Ok None) × (before step bus rounds (suc k) ≡ before step bus rounds k)
   -- a card that began in SPI is as it began after any number of rounds, in every field. Nor does it answer: the identifiers that CMD2 shows
   -- are those of cards in MMC mode, and at our bus it sends nothing at any frame (`spi_stays` in bus, proofs/InSpi.antt)
   pub spi : (place k : ℕ) → (card_at bus place).mode.spi ≡ true → card_at (before step bus rounds k) place ≡ card_at bus place

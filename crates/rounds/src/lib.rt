@@ -23,11 +23,8 @@ pub fn well_formed(bus: Bus) -> bool
     ensures answer { result ≡ true }
     ensures formed { WellFormed bus }
 {
-    let mut place: usize = 0;
-    while place < 30 {
-        let card = bus.cards[place];
+    for card in bus.cards {
         cid_bytes(card);
-        place += 1;
     }
     true
 }

@@ -12,13 +12,14 @@ use mathlib.Core.List.{List, [], ◌∷◌}
 use Prim.Native.Nat.{ℕ}
 use native.Mathlib.Omega.{arith}
 use lib.ListN.{length, get_or, replicate}
-use Rattle.base.proofs.Cases.{never}
+use Rattle.std.specs.Prelude.{Some}
+use Rattle.base.proofs.Cases.{clash, never}
 use Rattle.shared_line.specs.Bytes.{anded}
 use Rattle.shared_line.specs.Lowest.{no_low, is_lower, is_low}
 
-nobody_sent : no_low.any ≡ true → ⊥
+nobody_sent : (cid : List ℕ) → no_low ≡ Some cid → ⊥
 unfolding no_low
-nobody_sent e = never e
+nobody_sent cid e = clash cc
 
 first_dropped : is_lower no_low (replicate 16 0xFF) ≡ false → ⊥
 unfolding no_low is_lower

@@ -17,9 +17,10 @@ ghost use Rattle.spi.specs.Hearing.{unheard, mode_after, as_spi, heard_of, crc_p
 use card_record::{Link, Mode, Sent};
 use command::{Change, Met};
 use moves::Move;
-use replies::{in_mmc, in_spi, is_idle, left_by, pending, response_of, sent_by, shown};
-use states::Column;
+use replies::{is_idle, left_by, pending, response_of, sent_by, shown};
+use states::{Column, State};
 use status::{ErrorBit, Errors};
+use wire::Command;
 
 // What a command leaves: the mode, the link, what is sent, and what is to change in what is lent.
 #[derive(Clone, Copy)]
@@ -39,7 +40,8 @@ pub enum Response {
 }
 
 // How a command is answered, in one list for both modes: the answer is chosen with the move, and what
-// the command does stands between the two once, whichever mode it came in.
+// the command does stands between the two once, whichever mode it came in. It is flat, as `left_by` and
+// `sent_by` of specs/Answering.antt go over it.
 #[derive(Clone, Copy)]
 pub enum Answering {
     Nothing,
@@ -74,8 +76,7 @@ fn unheard(mode: Mode, link: Link) -> Heard
 fn untaken(mode: Mode, link: Link, errors: Errors, answered: bool) -> Heard
     ensures { result ≡ untaken mode link errors answered }
 {
-    let state = link.state;
-    let idle = is_idle(state);
+    let idle = is_idle(link.state);
     Heard {
         mode,
         link: Link {
@@ -88,37 +89,30 @@ fn untaken(mode: Mode, link: Link, errors: Errors, answered: bool) -> Heard
 }
 
 // CMD0 enters SPI, or starts it anew, with CRC checking off; CMD59 switches the checking.
-fn mode_after(mode: Mode, index: u8, argument: u32) -> Mode
-    ensures { result ≡ mode_after mode index argument }
+fn mode_after(mode: Mode, command: Command) -> Mode
+    ensures { result ≡ mode_after mode command.index command.argument }
 {
-    if index == 0 {
-        return Mode {
+    match command.index {
+        0 => Mode {
             spi: true,
             checks: false,
-        };
-    }
-    if index == 59 {
-        return Mode {
-            checks: argument % 2 == 1,
+        },
+        59 => Mode {
+            checks: command.argument % 2 == 1,
             ..mode
-        };
+        },
+        _ => mode,
     }
-    mode
 }
 
 // A command that is taken as SPI has it may change the mode; CMD13 and CMD58, which R2 and R3 answer,
 // do not.
-fn mode_by(answering: Answering, mode: Mode, index: u8, argument: u32) -> Mode
-    ensures { result ≡ mode_by answering mode index argument }
+fn mode_by(answering: Answering, mode: Mode, command: Command) -> Mode
+    ensures { result ≡ mode_by answering mode command.index command.argument }
 {
     match answering {
-        Answering::Nothing => mode,
-        Answering::R1 => mode,
-        Answering::R2 => mode,
-        Answering::R3 => mode,
-        Answering::SpiR1 => mode_after(mode, index, argument),
-        Answering::SpiR2 => mode,
-        Answering::SpiR3 => mode,
+        Answering::SpiR1 => mode_after(mode, command),
+        _ => mode,
     }
 }
 
@@ -126,26 +120,19 @@ fn mode_by(answering: Answering, mode: Mode, index: u8, argument: u32) -> Mode
 fn as_spi(mode: Mode, selected: bool, index: u8) -> bool
     ensures { result ≡ as_spi mode selected index }
 {
-    if !selected {
-        return false;
-    }
-    if mode.spi {
-        return true;
-    }
-    index == 0
+    selected && (mode.spi || index == 0)
 }
 
 // What a command finds at a card whose select line is low (`selected`) or high, before anything is
 // done.
-fn decide(mode: Mode, selected: bool, link: Link, met: Met, index: u8, argument: u32) -> Decision
-    ensures { result ≡ decision_of mode selected link met index argument }
+fn decide(mode: Mode, selected: bool, link: Link, met: Met, command: Command) -> Decision
+    ensures { result ≡ decision_of mode selected link met command.index command.argument }
 {
-    if as_spi(mode, selected, index) {
-        let state = link.state;
-        let row = spi_moves::row_of(index);
+    if as_spi(mode, selected, command.index) {
+        let row = spi_moves::row_of(command.index);
         return Decision {
-            answering: in_spi(response_of(index)),
-            next: spi_moves::next(row, states::column_of(state)),
+            answering: Answering::from(response_of(command.index)),
+            next: spi_moves::next(row, states::column_of(link.state)),
         };
     }
     if mode.spi {
@@ -154,12 +141,10 @@ fn decide(mode: Mode, selected: bool, link: Link, met: Met, index: u8, argument:
             next: Move::Ignored,
         };
     }
-    let decided = command::decide(link, met, index, argument);
-    let row = decided.row;
-    let next = decided.next;
+    let decided = command::decide(link, met, command);
     Decision {
-        answering: in_mmc(command::response_of(row)),
-        next,
+        answering: Answering::from(command::response_of(decided.row)),
+        next: decided.next,
     }
 }
 
@@ -168,57 +153,51 @@ fn take(
     mode: Mode,
     link: Link,
     met: Met,
-    index: u8,
-    argument: u32,
+    command: Command,
     answering: Answering,
     column: Column,
 ) -> Heard
-    ensures { result ≡ taken_by mode link met index argument answering column }
+    ensures { result ≡ taken_by mode link met command.index command.argument answering column }
 {
-    let acted = command::act(link, met, index, argument, column);
+    let acted = command::act(link, met, command, column);
     let errors = acted.errors;
     let after = acted.link;
-    let change = acted.change;
-    let from = link.state;
-    let to = after.state;
     Heard {
-        mode: mode_by(answering, mode, index, argument),
+        mode: mode_by(answering, mode, command),
         link: Link {
             errors: left_by(answering, errors),
             ..after
         },
         sent: sent_by(
             answering,
-            index,
+            command.index,
             errors,
             met.locked,
-            states::column_of(from),
-            is_idle(to),
+            states::column_of(link.state),
+            is_idle(after.state),
         ),
-        change,
+        change: acted.change,
     }
 }
 
 // A command at a card, as it was decided.
-pub fn hear(mode: Mode, selected: bool, link: Link, met: Met, index: u8, argument: u32) -> Heard
-    ensures answer { result ≡ heard_of mode selected link met index argument }
+pub fn hear(mode: Mode, selected: bool, link: Link, met: Met, command: Command) -> Heard
+    ensures answer { result ≡ heard_of mode selected link met command.index command.argument }
 {
-    let decided = decide(mode, selected, link, met, index, argument);
-    let answering = decided.answering;
-    let next = decided.next;
-    match next {
-        Move::Ignored => unheard(mode, link),
-        Move::Silent => unheard(mode, link),
+    let decided = decide(mode, selected, link, met, command);
+    match decided.next {
+        Move::Ignored | Move::Silent => unheard(mode, link),
         Move::Illegal => {
-            let spi = as_spi(mode, selected, index);
+            let spi = as_spi(mode, selected, command.index);
             let errors = status::set(link.errors, ErrorBit::IllegalCommand);
             untaken(mode, link, errors, spi)
         }
-        Move::To(column) => take(mode, link, met, index, argument, answering, column),
+        Move::To(column) => take(mode, link, met, command, decided.answering, column),
     }
 }
 
 // What a frame that is refused 3 leaves: in SPI an R1 is sent beside the number.
+#[tactic(auto, unfolding(crate::specs::Hearing::damaged_of, crate::specs::Answering::untaken, crate::specs::Answers::faulted))]
 pub fn damaged(mode: Mode, selected: bool, link: Link) -> Heard
     ensures answer { result ≡ damaged_of mode selected link }
 {
@@ -229,9 +208,7 @@ pub fn damaged(mode: Mode, selected: bool, link: Link) -> Heard
     if !selected {
         return unheard(mode, link);
     }
-    let state = link.state;
-    let on = states::column_of(state);
-    if states::number(on) == 9 {
+    if matches!(link.state, State::Ina) {
         return unheard(mode, link);
     }
     let errors = status::set(link.errors, ErrorBit::ComCrcError);
@@ -243,14 +220,5 @@ pub fn damaged(mode: Mode, selected: bool, link: Link) -> Heard
 pub fn crc_passes(mode: Mode, index: u8, right: bool) -> bool
     ensures answer { result ≡ crc_passes mode index right }
 {
-    if right {
-        return true;
-    }
-    if !mode.spi {
-        return false;
-    }
-    if mode.checks {
-        return false;
-    }
-    index != 0
+    right || (mode.spi && !mode.checks && index != 0)
 }

@@ -15,20 +15,17 @@ use status::Errors;
 pub fn response_of(index: u8) -> Response
     ensures { result ≡ response_of index }
 {
-    if index == 13 {
-        return Response::R2;
+    match index {
+        13 => Response::R2,
+        58 => Response::R3,
+        _ => Response::R1,
     }
-    if index == 58 {
-        return Response::R3;
-    }
-    Response::R1
 }
 
 pub fn is_idle(state: State) -> bool
     ensures { result ≡ idle_in state }
 {
-    let on = states::column_of(state);
-    states::number(on) == 0
+    matches!(state, State::Idle)
 }
 
 // An answer of these error bits, by a card that is idle after the command, or is not, and locked or not.
@@ -51,9 +48,8 @@ pub fn left(response: Response, errors: Errors) -> Errors
     ensures { result ≡ left_in response errors }
 {
     match response {
-        Response::R1 => spi_answers::cleared_r1(errors),
+        Response::R1 | Response::R3 => spi_answers::cleared_r1(errors),
         Response::R2 => spi_answers::cleared_r2(errors),
-        Response::R3 => spi_answers::cleared_r1(errors),
     }
 }
 
@@ -62,9 +58,10 @@ pub fn pending(errors: Errors, answered: bool) -> Errors
     ensures { result ≡ pick answered (left_in R1 errors) errors }
 {
     if answered {
-        return left(Response::R1, errors);
+        left(Response::R1, errors)
+    } else {
+        errors
     }
-    errors
 }
 
 // That R1, where it is sent.
@@ -72,29 +69,34 @@ pub fn shown(errors: Errors, idle: bool, answered: bool) -> Sent
     ensures { result ≡ pick answered (sent_in R1 errors idle false) Nothing }
 {
     if answered {
-        return send(Response::R1, errors, idle, false);
-    }
-    Sent::Nothing
-}
-
-pub fn in_mmc(response: command::Response) -> Answering
-    ensures { result ≡ in_mmc response }
-{
-    match response {
-        command::Response::Nothing => Answering::Nothing,
-        command::Response::R1 => Answering::R1,
-        command::Response::R2 => Answering::R2,
-        command::Response::R3 => Answering::R3,
+        send(Response::R1, errors, idle, false)
+    } else {
+        Sent::Nothing
     }
 }
 
-pub fn in_spi(response: Response) -> Answering
-    ensures { result ≡ in_spi response }
-{
-    match response {
-        Response::R1 => Answering::SpiR1,
-        Response::R2 => Answering::SpiR2,
-        Response::R3 => Answering::SpiR3,
+impl From<command::Response> for Answering {
+    ghost from_gives = { λ response answering. answering ≡ in_mmc response };
+
+    fn from(response: command::Response) -> Answering {
+        match response {
+            command::Response::Nothing => Answering::Nothing,
+            command::Response::R1 => Answering::R1,
+            command::Response::R2 => Answering::R2,
+            command::Response::R3 => Answering::R3,
+        }
+    }
+}
+
+impl From<Response> for Answering {
+    ghost from_gives = { λ response answering. answering ≡ in_spi response };
+
+    fn from(response: Response) -> Answering {
+        match response {
+            Response::R1 => Answering::SpiR1,
+            Response::R2 => Answering::SpiR2,
+            Response::R3 => Answering::SpiR3,
+        }
     }
 }
 

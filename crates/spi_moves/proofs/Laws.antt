@@ -18,7 +18,7 @@ use Rattle.base.specs.Choice.{pick}
 use Rattle.states.specs.declared.Column.{Column}
 use Rattle.states.specs.declared.Column.TheVariants.{Idle, Ina}
 use Rattle.moves.proofs.Among.{each}
-use Rattle.moves.proofs.Orders.{move_number, moves_numbered}
+use Rattle.moves.proofs.Numbers.{move_number, moves_numbered}
 use Rattle.moves.proofs.Spans.{told}
 use Rattle.moves.specs.Indices.{among}
 use Rattle.moves.specs.Moves.{in_state, move_of as move_in_mmc}

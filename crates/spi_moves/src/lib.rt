@@ -7,18 +7,17 @@
 
 mod table;
 
-ghost use Rattle.std.specs.Prelude.{◌≡◌, get_or};
-ghost use Rattle.states.specs.States.{column_number};
+ghost use Rattle.std.specs.Prelude.{◌≡◌};
 ghost use Rattle.spi_moves.specs.Moves.{row_of, move_of};
-ghost use Rattle.spi_moves.specs.Table.{meant_by, entry_of, Ruled};
-ghost use Rattle.spi_moves.specs.declared.table.Entry.TheVariants.{Idle};
+ghost use Rattle.spi_moves.specs.Table.{entry_of, Ruled};
 
 use moves::Move;
+use moves::entries::entry_in;
 use states::Column;
-use table::{Entry, MOVES};
+use table::MOVES;
 
 // The rows of the table of moves in SPI.
-#[derive(Clone, Copy)]
+#[derive(Clone, Copy, PartialEq, Eq)]
 pub enum Row {
     // CMD0.
     GoIdleState,
@@ -43,6 +42,7 @@ pub enum Row {
 }
 
 // The row that a command falls in.
+#[tactic(auto, unfolding(crate::specs::Moves::row_of))]
 pub fn row_of(index: u8) -> Row
     ensures answer { result ≡ row_of index }
 {
@@ -61,50 +61,14 @@ pub fn row_of(index: u8) -> Row
 }
 
 // The table by its rule: the only place that names it.
-fn legal_moves() -> [[Entry; 10]; 10]
+fn legal_moves() -> [[Move; 10]; 10]
     ensures { Ruled result }
 {
     MOVES
 }
 
-// The move that an entry stands for.
-fn meant(entry: Entry) -> Move
-    ensures { result ≡ meant_by entry }
-{
-    match entry {
-        Entry::Idle => Move::To(Column::Idle),
-        Entry::Stby => Move::To(Column::Stby),
-        Entry::Tran => Move::To(Column::Tran),
-        Entry::Data => Move::To(Column::Data),
-        Entry::Rcv => Move::To(Column::Rcv),
-        Entry::Prg => Move::To(Column::Prg),
-        Entry::Dis => Move::To(Column::Dis),
-        Entry::Ignored => Move::Ignored,
-        Entry::Illegal => Move::Illegal,
-    }
-}
-
-// The entry of a line in a column: each by its own place, so that the compiler never lays the line
-// out.
-fn entry_in(line: [Entry; 10], column: Column) -> Entry
-    ensures { result ≡ get_or line (column_number column) Idle }
-{
-    match column {
-        Column::Idle => line[0],
-        Column::Ready => line[1],
-        Column::Ident => line[2],
-        Column::Stby => line[3],
-        Column::Tran => line[4],
-        Column::Data => line[5],
-        Column::Rcv => line[6],
-        Column::Prg => line[7],
-        Column::Dis => line[8],
-        Column::Ina => line[9],
-    }
-}
-
-// The entry of a row in a column.
-fn entry_at(table: [[Entry; 10]; 10], row: Row, column: Column) -> Entry
+// The entry of a row in a state, by a literal place (`entry_in`).
+fn entry_at(table: [[Move; 10]; 10], row: Row, column: Column) -> Move
     ensures { result ≡ entry_of table row column }
 {
     match row {
@@ -122,10 +86,9 @@ fn entry_at(table: [[Entry; 10]; 10], row: Row, column: Column) -> Entry
 }
 
 // Where a row leads from a state.
+#[tactic(auto, unfolding(crate::specs::Table::Ruled))]
 pub fn next(row: Row, column: Column) -> Move
     ensures answer { result ≡ move_of row column }
 {
-    let table = legal_moves();
-    let entry = entry_at(table, row, column);
-    meant(entry)
+    entry_at(legal_moves(), row, column)
 }

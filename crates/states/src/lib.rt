@@ -8,7 +8,7 @@ ghost use Rattle.std.specs.Prelude.{◌≡◌};
 ghost use Rattle.states.specs.States.{column_of, column_number};
 
 // What a card in rcv awaits: a block at an address, blocks from an address on, a lock request.
-#[derive(Clone, Copy)]
+#[derive(Clone, Copy, PartialEq, Eq)]
 pub enum Incoming {
     One(u32),
     Many(u32),
@@ -17,7 +17,7 @@ pub enum Incoming {
 
 // What a card in data is to send: a block from an address, blocks from an address on, the
 // protection bits from a group on; in SPI a register too.
-#[derive(Clone, Copy)]
+#[derive(Clone, Copy, PartialEq, Eq)]
 pub enum Outgoing {
     One(u32),
     Many(u32),
@@ -26,7 +26,7 @@ pub enum Outgoing {
     Cid,
 }
 
-#[derive(Clone, Copy)]
+#[derive(Clone, Copy, PartialEq, Eq)]
 pub enum State {
     Idle,
     Ready,
@@ -40,8 +40,9 @@ pub enum State {
     Ina,
 }
 
-// A state without what it waits for: a column of the table of moves, and what a status shows.
-#[derive(Clone, Copy)]
+// A state without what it waits for: a column of the table of moves, and what a status shows. The
+// columns stand in the order of their numbers (`number`).
+#[derive(Clone, Copy, PartialEq, Eq)]
 pub enum Column {
     Idle,
     Ready,
@@ -55,6 +56,7 @@ pub enum Column {
     Ina,
 }
 
+// A `From` beside it would be a second name.
 pub fn column_of(state: State) -> Column
     ensures answer { result ≡ column_of state }
 {
@@ -72,20 +74,9 @@ pub fn column_of(state: State) -> Column
     }
 }
 
-// The number of a state: a status shows it, and a table of moves is indexed by it.
+// The number of a state, which is its place among the columns: a status shows it.
 pub fn number(column: Column) -> u8
     ensures answer { result ≡ column_number column }
 {
-    match column {
-        Column::Idle => 0,
-        Column::Ready => 1,
-        Column::Ident => 2,
-        Column::Stby => 3,
-        Column::Tran => 4,
-        Column::Data => 5,
-        Column::Rcv => 6,
-        Column::Prg => 7,
-        Column::Dis => 8,
-        Column::Ina => 9,
-    }
+    column as u8
 }

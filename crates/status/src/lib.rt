@@ -2,36 +2,29 @@
 // name, those that are pending, and the 32-bit word. No call has a `requires`: of any 32 bits only
 // the named error bits are ever shown.
 //
-// Offers: `ErrorBit`, `Fault`; `Errors`, `none`, `set`, `clear_command_bits`, `pending`; `word`.
+// Offers: `ErrorBit`; `Errors`, `none`, `set`, `clear_command_bits`, `pending`; `word`.
 #![tactic(auto)]
 
-ghost use Rattle.std.specs.Prelude.{◌≡◌, ◌^◌};
-ghost use Rattle.status.specs.ErrorBits.{place_of};
-ghost use Rattle.status.specs.Status.{no_errors, with_bit, command_bits_cleared, shown, flag, buffer_empty, word_of};
+ghost use Rattle.std.specs.Prelude.{◌≡◌};
+ghost use Rattle.status.specs.Status.{no_errors, with_bit, command_bits_cleared, shown, buffer_empty, word_of};
 
 use states::Column;
 
-// The error bits that document 01 uses, by the names of source document 001, from bit 31 down.
-#[derive(Clone, Copy)]
+// The error bits that document 01 uses, by the names of source document 001, each with its place in
+// the status.
+#[derive(Clone, Copy, PartialEq, Eq)]
 pub enum ErrorBit {
-    OutOfRange,
-    AddressError,
-    BlockLenError,
-    EraseSeqError,
-    EraseParam,
-    WpViolation,
-    LockUnlockFailed,
-    ComCrcError,
-    IllegalCommand,
-    WpEraseSkip,
-    EraseReset,
-}
-
-// What a check of a command finds: nothing wrong, or the error bit to set.
-#[derive(Clone, Copy)]
-pub enum Fault {
-    None,
-    Bit(ErrorBit),
+    OutOfRange = 31,
+    AddressError = 30,
+    BlockLenError = 29,
+    EraseSeqError = 28,
+    EraseParam = 27,
+    WpViolation = 26,
+    LockUnlockFailed = 24,
+    ComCrcError = 23,
+    IllegalCommand = 22,
+    WpEraseSkip = 15,
+    EraseReset = 13,
 }
 
 // The error bits that wait to be reported, each in its place of the status.
@@ -46,25 +39,6 @@ const ERROR_BITS: u32 = 0xFDC0_A000;
 // Every bit of 32 but 23 and 22.
 const ALL_BUT_COMMAND_BITS: u32 = 0xFF3F_FFFF;
 
-// The word in which one error bit is set.
-fn alone(bit: ErrorBit) -> u32
-    ensures { result ≡ 2 ^ place_of bit }
-{
-    match bit {
-        ErrorBit::OutOfRange => 0x8000_0000,
-        ErrorBit::AddressError => 0x4000_0000,
-        ErrorBit::BlockLenError => 0x2000_0000,
-        ErrorBit::EraseSeqError => 0x1000_0000,
-        ErrorBit::EraseParam => 0x0800_0000,
-        ErrorBit::WpViolation => 0x0400_0000,
-        ErrorBit::LockUnlockFailed => 0x0100_0000,
-        ErrorBit::ComCrcError => 0x0080_0000,
-        ErrorBit::IllegalCommand => 0x0040_0000,
-        ErrorBit::WpEraseSkip => 0x0000_8000,
-        ErrorBit::EraseReset => 0x0000_2000,
-    }
-}
-
 // No error bit: after power-on and CMD0, and after each R1.
 pub fn none() -> Errors
     ensures answer { result ≡ no_errors }
@@ -76,13 +50,12 @@ pub fn none() -> Errors
 pub fn set(errors: Errors, bit: ErrorBit) -> Errors
     ensures answer { result ≡ with_bit errors bit }
 {
-    let more = alone(bit);
     Errors {
-        bits: errors.bits | more,
+        bits: errors.bits | 1 << bit as u32,
     }
 }
 
-// What a taken command that answers no R1 leaves pending.
+// What a taken command that answers no R1 leaves pending. A mask is all that it shares with SPI's.
 pub fn clear_command_bits(errors: Errors) -> Errors
     ensures answer { result ≡ command_bits_cleared errors }
 {
@@ -98,35 +71,19 @@ pub fn pending(errors: Errors) -> u32
     errors.bits & ERROR_BITS
 }
 
-fn bit_of(is: bool) -> u32
-    ensures { result ≡ flag is }
-{
-    if is { 1 } else { 0 }
-}
-
 // Bit 8, BUFFER_EMPTY in source document 001.
 fn buffer_empty(on: Column) -> bool
     ensures { result ≡ buffer_empty on }
 {
-    match on {
-        Column::Idle => true,
-        Column::Ready => true,
-        Column::Ident => true,
-        Column::Stby => true,
-        Column::Tran => true,
-        Column::Data => true,
-        Column::Rcv => true,
-        Column::Prg => false,
-        Column::Dis => false,
-        Column::Ina => true,
-    }
+    !matches!(on, Column::Prg | Column::Dis)
 }
 
 // The status of a card that was in the state `on` when it received the command.
+#[tactic(auto, unfolding(crate::specs::Status::word_of))]
 pub fn word(errors: Errors, locked: bool, on: Column) -> u32
     ensures answer { result ≡ word_of errors locked on }
 {
     let state = states::number(on) as u32;
-    let low = state * 0x0200 + bit_of(buffer_empty(on)) * 0x0100;
-    pending(errors) + bit_of(locked) * 0x0200_0000 + low
+    let low = state * 0x0200 + u32::from(buffer_empty(on)) * 0x0100;
+    pending(errors) + u32::from(locked) * 0x0200_0000 + low
 }

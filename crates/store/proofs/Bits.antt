@@ -1,14 +1,13 @@
 -- The bits of protection groups, worked from the highest down.
 --   bit_small   a group's bit is 0 or 1
 --   bits_half   fewer than 32 bits leave room for one more in 32
---   bits_turn   the bits of the groups from i on, and the bit before them, make the bits from there on
 --   bits_all    the bits from group 0 of 32 on are all of them
 --   group_bit   bit i of the 32 is that of the group i after the addressed one
 -- Assumes nothing.
 use mathlib.Core.Path.{◌≡◌, sym, ap, ap₂, ◌∙◌}
 use mathlib.Core.Bool.{Bool, true, false}
 use mathlib.Core.List.{List}
-use Prim.Native.Nat.{ℕ, zero, suc, ◌+◌, ◌-◌, ◌*◌, ◌/◌, ◌%◌, ◌^◌, ◌≤◌, ◌<◌}
+use Prim.Native.Nat.{ℕ, zero, suc, ◌+◌, ◌-◌, ◌/◌, ◌%◌, ◌^◌, ◌≤◌, ◌<◌}
 use native.Mathlib.Nat.{add-zero, pow-suc, pow-succ', div-div-eq-div-mul}
 use native.Mathlib.Omega.{arith}
 use lib.Dec.{eqb}
@@ -31,16 +30,6 @@ bits_small map group (suc n) = omega (arith, bit_small map group, bits_small map
 
 pub bits_half : (map : List ℕ) (group n : ℕ) → n ≤ 31 → bits_from map group n < 2147483648
 bits_half map group n h = omega (arith, bits_small map group n, pow_mono {i = n} {j = 31} h)
-
-pub bits_turn : (map : List ℕ) (group i bits bit : ℕ) → 0 < i → i ≤ 32 → bits ≡ bits_from map (group + i) (32 - i) → bit ≡ bit_of map (group + (i - 1))
-    → bits * 2 + bit ≡ bits_from map (group + (i - 1)) (32 - (i - 1))
-unfolding bits_from
-bits_turn map group i bits bit lo hi e b =
-    let g : suc (group + (i - 1)) ≡ group + i = omega arith in
-    let n : 32 - (i - 1) ≡ suc (32 - i) = omega arith in
-    let rest : bits_from map (suc (group + (i - 1))) (32 - i) ≡ bits = ap (λ (k : ℕ). bits_from map k (32 - i)) g ∙ sym e in
-    let all : bits * 2 + bit ≡ bits_from map (group + (i - 1)) (suc (32 - i)) = omega (arith, rest, b) in
-    all ∙ ap (bits_from map (group + (i - 1))) (sym n)
 
 pub bits_all : (map : List ℕ) (group i bits : ℕ) → i ≡ 0 → bits ≡ bits_from map (group + i) (32 - i) → bits ≡ protection_bits map group
 unfolding protection_bits

@@ -9,14 +9,13 @@ use Prim.Native.Nat.{ℕ, ◌*◌}
 use borrow.Author.Tests.{eqb-true, eq-eqb}
 use lib.Dec.{eqb}
 use lib.ListN.{length}
-use Rattle.base.proofs.Cases.{guarded, clash, first, last, passed}
+use Rattle.base.proofs.Cases.{guarded, first, last, unrefused, passed}
 use Rattle.base.specs.Choice.{unless}
 use Rattle.base.specs.Refusals.{by}
 use Rattle.base.specs.declared.Refusal.{Refusal}
 use Rattle.store.specs.Lent.{Seen, lent_right, lending_of, once_lent}
 use Rattle.store.specs.Map.{entries_right, map_right}
-use Rattle.store.specs.declared.Lending.{Lending}
-use Rattle.store.specs.declared.Lending.TheVariants.{Right, Refused}
+use Rattle.std.specs.Prelude.{Result, Ok, Err}
 
 pair : (a b : Bool) → a ≡ true → b ≡ true → (a && b) ≡ true
 pair true true e f = refl
@@ -24,13 +23,13 @@ pair true false e f = f
 pair false b e f = e
 
 module _ (seen : Seen) (groups : ℕ) where
-  abbrev given : Bool → Lending
-  given right = unless right (Refused (by 12)) Right
+  abbrev given : Bool → Result Unit Refusal
+  given right = unless right (Err (by 12)) (Ok tt)
 
-  pub once_lent_lem : {A : Type 0} (P : A → Type 0) (refusing : Refusal → A) {rest : A} → P (refusing (by 12)) → (lending_of seen groups ≡ Right → P rest)
+  pub once_lent_lem : {A : Type 0} (P : A → Type 0) (refusing : Refusal → A) {rest : A} → P (refusing (by 12)) → (lending_of seen groups ≡ Ok tt → P rest)
       → P (once_lent (lending_of seen groups) refusing rest)
   once_lent_lem P refusing {rest} miss hit =
-      guarded (λ (l : Lending). P (once_lent l refusing rest)) (lent_right seen groups) (λ t. miss) (λ t. hit (ap given t))
+      guarded (λ (l : Result Unit Refusal). P (once_lent l refusing rest)) (lent_right seen groups) (λ t. miss) (λ t. hit (ap given t))
 
   -- the tests of what is lent
   abbrev size : Bool
@@ -42,15 +41,15 @@ module _ (seen : Seen) (groups : ℕ) where
   abbrev entries : Bool
   entries = entries_right seen.map (length seen.map)
 
-  pub right_parts : lending_of seen groups ≡ Right → (seen.bytes ≡ groups * 8192) × ((length seen.map ≡ groups) × (entries ≡ true))
+  pub right_parts : lending_of seen groups ≡ Ok tt → (seen.bytes ≡ groups * 8192) × ((length seen.map ≡ groups) × (entries ≡ true))
   right_parts e =
-      let t = (passed (lent_right seen groups) (Refused (by 12)) Right Right (λ z. clash cc) e).0 in
+      let t = (passed (lent_right seen groups) (Err (by 12)) (Ok tt) (Ok tt) unrefused e).0 in
       let map = last size (map_right seen.map groups) t in (
         eqb-true seen.bytes (groups * 8192) (first size (map_right seen.map groups) t),
         (eqb-true (length seen.map) groups (first long entries map), last long entries map),
       )
 
-  pub parts_right : seen.bytes ≡ groups * 8192 → length seen.map ≡ groups → entries ≡ true → lending_of seen groups ≡ Right
+  pub parts_right : seen.bytes ≡ groups * 8192 → length seen.map ≡ groups → entries ≡ true → lending_of seen groups ≡ Ok tt
   parts_right bytes map right =
       ap given
       (pair size (map_right seen.map groups) (eq-eqb seen.bytes (groups * 8192) bytes)

@@ -27,7 +27,7 @@ use Rattle.base.specs.Refusals.{by}
 use Rattle.store.specs.Lent.{seen_of, lending_of}
 use Rattle.store.specs.Map.{entries_right, map_right, protected_in, group_set, bits_from, protection_bits, map_cleared}
 use Rattle.store.specs.Memory.{size_allowed, sector_written, inside, part_read, all_erased}
-use Rattle.store.specs.declared.Lending.TheVariants.{Right, Refused}
+use Rattle.std.specs.Prelude.{Ok, Err}
 
 size_below : size_allowed 8191 ≡ true → ⊥
 size_below e = clash cc
@@ -46,19 +46,19 @@ map_longer : map_right (0 ∷ 0 ∷ []) 1 ≡ true → ⊥
 unfolding entries_right
 map_longer e = clash cc
 
-memory_short : lending_of (seen_of 8191 (0 ∷ [])) 1 ≡ Right → ⊥
+memory_short : lending_of (seen_of 8191 (0 ∷ [])) 1 ≡ Ok tt → ⊥
 unfolding entries_right
 memory_short e = clash cc
 
-lent_longer : lending_of (seen_of 8192 (0 ∷ 0 ∷ [])) 1 ≡ Right → ⊥
+lent_longer : lending_of (seen_of 8192 (0 ∷ 0 ∷ [])) 1 ≡ Ok tt → ⊥
 unfolding entries_right
 lent_longer e = clash cc
 
-lent_entry : lending_of (seen_of 8192 (2 ∷ [])) 1 ≡ Right → ⊥
+lent_entry : lending_of (seen_of 8192 (2 ∷ [])) 1 ≡ Ok tt → ⊥
 unfolding entries_right
 lent_entry e = clash cc
 
-lent_as_map : lending_of (seen_of 8192 (2 ∷ [])) 1 ≡ Refused (by 8) → ⊥
+lent_as_map : lending_of (seen_of 8192 (2 ∷ [])) 1 ≡ Err (by 8) → ⊥
 unfolding entries_right
 lent_as_map e = clash cc
 

@@ -1,13 +1,11 @@
 -- Document 01, "Memory of one card": what a card is lent at a call, and whether it is the card's.
 -- Assumes nothing.
-use Rattle.std.specs.Prelude.{Bool, ◌&&◌, List, ℕ, ◌*◌, eqb, length}
+use Rattle.std.specs.Prelude.{Bool, ◌&&◌, List, ℕ, ◌*◌, eqb, length, Result, Ok, Err}
 use Rattle.base.specs.Choice.{unless}
 use Rattle.base.specs.Refusals.{by}
 use Rattle.base.specs.Sizes.{protection_group_size}
 use Rattle.base.specs.declared.Refusal.{Refusal}
 use Rattle.store.specs.Map.{map_right}
-use Rattle.store.specs.declared.Lending.{Lending}
-use Rattle.store.specs.declared.Lending.TheVariants.{Right, Refused}
 
 -- what a card is lent: its memory, and its protection map
 pub record Lent : Type 0 where
@@ -40,10 +38,10 @@ abbrev pub lent_right : Seen → ℕ → Bool
 lent_right seen groups = eqb seen.bytes (groups * protection_group_size) && map_right seen.map groups
 
 -- whether what is lent is that of a card of so many groups, and else the refusal
-abbrev pub lending_of : Seen → ℕ → Lending
-lending_of seen groups = unless (lent_right seen groups) (Refused (by 12)) Right
+abbrev pub lending_of : Seen → ℕ → Result Unit Refusal
+lending_of seen groups = unless (lent_right seen groups) (Err (by 12)) (Ok tt)
 
 -- a call that looks at what is lent first: what a refusal gives, and what comes after it
-abbrev pub once_lent : {A : Type 0} → Lending → (Refusal → A) → A → A
-once_lent Right refusing rest = rest
-once_lent (Refused refusal) refusing rest = refusing refusal
+abbrev pub once_lent : {A : Type 0} → Result Unit Refusal → (Refusal → A) → A → A
+once_lent (Ok tt) refusing rest = rest
+once_lent (Err refusal) refusing rest = refusing refusal

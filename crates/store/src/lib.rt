@@ -2,7 +2,7 @@
 // to them goes through these calls. Sectors and protection groups go by their numbers; what does
 // not lie in the lent bytes is left alone, so no call has a `requires`.
 //
-// Offers: `PROTECTION_GROUP`; `size_allowed`, `map_right`; `Lending`, `lent_check`; `read_part`,
+// Offers: `PROTECTION_GROUP`; `size_allowed`, `map_right`; `lent_check`; `read_part`,
 // `write_sector`, `erase`, `fill_all`; `protected`, `protect`, `protection_bits`, `clear_map`.
 #![tactic(auto)]
 
@@ -14,7 +14,8 @@ ghost use Rattle.store.specs.Lent.{seen_of, lending_of};
 ghost use Rattle.store.specs.Map.{entries_right, map_right, protected_in, group_set, bit_of, protection_bits, map_cleared};
 ghost use Rattle.store.specs.Memory.{contents, size_allowed, inside, sector_written, part_read, all_erased};
 
-use base::{Refusal, copy, fill, least};
+use base::Refusal;
+use std::ops;
 use tags::{Kind, Range, Tags};
 
 // The sizes of document 01, as memory is counted.
@@ -37,16 +38,15 @@ pub fn size_allowed(bytes: usize) -> bool
 
 // Whether each entry is 0 or 1. Every entry is looked at, so that the loop has no second way out
 // and many go at once.
+#[tactic(auto, unfolding(crate::specs::Map::entries_right))]
 fn entries_right(map: &[u8]) -> bool
     ensures { result ≡ entries_right map.now (length map.now) }
 {
     let mut right = true;
-    let mut i: usize = 0;
-    while i < map.len() {
-        if 1 < map[i] {
+    for entry in map {
+        if 1 < *entry {
             right = false;
         }
-        i += 1;
     }
     right
 }
@@ -61,27 +61,20 @@ pub fn map_right(map: &[u8], groups: usize) -> bool
     entries_right(map)
 }
 
-// What is lent is the card's, or is not.
-#[derive(Clone, Copy)]
-pub enum Lending {
-    Right,
-    Refused(Refusal),
-}
-
 // Whether a memory of this size and a map are those of a card of so many groups: 12.
-pub fn lent_check(memory: usize, map: &[u8], groups: usize) -> Lending
+pub fn lent_check(memory: usize, map: &[u8], groups: usize) -> Result<(), Refusal>
     ensures answer { result ≡ lending_of (seen_of memory map.now) groups }
 {
     if memory % PROTECTION_GROUP != 0 {
-        return Lending::Refused(Refusal::Lent);
+        return Err(Refusal::Lent);
     }
     if memory / PROTECTION_GROUP != groups {
-        return Lending::Refused(Refusal::Lent);
+        return Err(Refusal::Lent);
     }
     if !map_right(map, groups) {
-        return Lending::Refused(Refusal::Lent);
+        return Err(Refusal::Lent);
     }
-    Lending::Right
+    Ok(())
 }
 
 // Whether a sector is protected: the whole card is, or the map says so of the sector's group.
@@ -98,20 +91,13 @@ pub fn protected(map: &[u8], sector: u32, whole: bool) -> bool
     map[group] != 0
 }
 
-// The entry of a group that is protected, and of one that is not.
-fn entry(on: bool) -> u8
-    ensures { result ≡ pick on 1 0 }
-{
-    if on { 1 } else { 0 }
-}
-
 // Sets or clears the protection of a group.
 pub fn protect(map: &mut [u8], group: u32, on: bool)
     ensures map { map.new ≡ group_set map.old group on }
 {
     let at = group as usize;
     if at < map.len() {
-        map[at] = entry(on);
+        map[at] = u8::from(on);
     }
 }
 
@@ -122,18 +108,17 @@ fn bit(map: &[u8], group: usize) -> u32
     if map.len() <= group {
         return 0;
     }
-    if map[group] == 0 { 0 } else { 1 }
+    u32::from(map[group] != 0)
 }
 
 // The bits of 32 groups, the addressed one lowest.
+#[tactic(auto, unfolding(crate::specs::Map::bits_from))]
 pub fn protection_bits(map: &[u8], group: u32) -> u32
     ensures answer { result ≡ protection_bits map.now group }
 {
     let first = group as usize;
     let mut bits: u32 = 0;
-    let mut i: usize = 32;
-    while 0 < i {
-        i -= 1;
+    for i in (0..32).rev() {
         bits = bits * 2 + bit(map, first + i);
     }
     bits
@@ -143,17 +128,18 @@ pub fn protection_bits(map: &[u8], group: u32) -> u32
 pub fn fill_all(memory: &mut [u8])
     ensures memory { contents memory.new ≡ all_erased (contents memory.old) }
 {
-    fill(memory, 0xFF);
+    memory.fill(0xFF);
 }
 
 // No group protected any more.
 pub fn clear_map(map: &mut [u8])
     ensures map { map.new ≡ map_cleared map.old }
 {
-    fill(map, 0);
+    map.fill(0);
 }
 
 // A sector written with the first of these bytes, where there are enough and the memory has it.
+#[tactic(auto, unfolding(crate::specs::Memory::sector_written))]
 pub fn write_sector(memory: &mut [u8], sector: u32, bytes: &[u8])
     ensures memory { contents memory.new ≡ sector_written (contents memory.old) sector bytes.now }
 {
@@ -163,23 +149,13 @@ pub fn write_sector(memory: &mut [u8], sector: u32, bytes: &[u8])
     let number = sector as usize;
     if number < memory.len() / SECTOR {
         let from = number * SECTOR;
-        let end = from + SECTOR;
-        // Lent the sector alone, the copy is of a length that the compiler knows.
-        copy(&bytes[0..SECTOR], &mut memory[from..end], 0);
+        memory[from..from + SECTOR].copy_from_slice(&bytes[..SECTOR]);
     }
 }
 
-// How many of n bytes from a place on lie in the sector of that place.
-fn piece(at: usize, n: usize) -> usize
-    requires { 0 < n }
-    ensures { (0 < result) × (result ≤ n) × (at % sector_size + result ≤ sector_size) }
-{
-    let room = SECTOR - at % SECTOR;
-    if n < room { n } else { room }
-}
-
-// The bytes from a place on copied over all of `out`, a sector's part after the other; false, and
-// nothing is written, where they do not all lie in the memory.
+// The bytes from a place on copied over all of `out`; false, and nothing is written, where they do
+// not all lie in the memory.
+#[tactic(auto, unfolding(crate::specs::Memory::part_read))]
 pub fn read_part(memory: &[u8], at: usize, out: &mut [u8]) -> bool
     ensures answer { result ≡ inside (contents memory.now) at (length out.old) }
     ensures output { out.new ≡ part_read (contents memory.now) at out.old }
@@ -191,54 +167,28 @@ pub fn read_part(memory: &[u8], at: usize, out: &mut [u8]) -> bool
     if memory.len() - n < at {
         return false;
     }
-    let mut done: usize = 0;
-    while done < n {
-        let from = at + done;
-        let k = piece(from, n - done);
-        let end = from + k;
-        copy(&memory[from..end], out, done);
-        done += k;
-    }
+    out.copy_from_slice(&memory[at..at + n]);
     true
 }
 
-// Sectors from the first on, the end not among them.
-#[derive(Clone, Copy)]
-struct Span {
-    first: usize,
-    end: usize,
-}
-
 // Sectors outside which nothing is tagged.
-fn reach(tags: Tags) -> Span
-    ensures { Spans tags result.first result.end }
+fn reach(tags: Tags) -> ops::Range<usize>
+    ensures { Spans tags result.start result.end }
 {
     let range = tags.range;
     match range {
-        Range::Nothing => Span { first: 0, end: 0 },
-        Range::Start(_, _) => Span { first: 0, end: 0 },
+        Range::Nothing => 0..0,
+        Range::Start(_, _) => 0..0,
         Range::Full(kind, first, last) => match kind {
-            Kind::Sectors => Span {
-                first: first as usize,
-                end: last as usize + 1,
-            },
-            Kind::Groups => Span {
-                first: first as usize * 8,
-                end: last as usize * 8 + 8,
-            },
+            Kind::Sectors => first as usize..last as usize + 1,
+            Kind::Groups => first as usize * 8..last as usize * 8 + 8,
         },
     }
 }
 
-// Whether one of two holds.
-fn either(a: bool, b: bool) -> bool
-    ensures { result ≡ a || b }
-{
-    if a { true } else { b }
-}
-
 // One sector: whether it is tagged, and then whether it is protected, asked of this sector alone.
 // The answer is whether it was spared.
+#[tactic(auto, unfolding(crate::specs::Erase::sector_erased))]
 fn erase_sector(
     memory: &mut [u8],
     map: &[u8],
@@ -263,21 +213,22 @@ fn erase_sector(
 }
 
 // Every tagged sector outside protection erased. The answer is whether any was spared. Only the
-// sectors that the tags reach are looked at.
+// sectors that the tags reach are looked at. Never copied into a caller, whose stack would hold the
+// 512 bytes at every command.
+#[inline(never)]
+#[tactic(auto, unfolding(crate::specs::Erase::erased_sector))]
 pub fn erase(memory: &mut [u8], map: &[u8], tags: Tags, whole: bool) -> bool
     ensures answer { result ≡ any_spared map.now tags whole (length (contents memory.old)) }
     ensures memory { contents memory.new ≡ erased map.now tags whole (contents memory.old) }
 {
     let blank = [0xFFu8; 512];
-    let sectors = least(memory.len() / SECTOR, 4294967296);
+    let sectors = (memory.len() / SECTOR).min(4294967296);
     let span = reach(tags);
-    let end = least(span.end, sectors);
-    let mut sector = least(span.first, sectors);
+    let end = span.end.min(sectors);
+    let first = span.start.min(end);
     let mut spared = false;
-    while sector < end {
-        let kept = erase_sector(memory, map, tags, whole, sector as u32, &blank);
-        spared = either(spared, kept);
-        sector += 1;
+    for sector in first..end {
+        spared |= erase_sector(memory, map, tags, whole, sector as u32, &blank);
     }
     spared
 }

@@ -21,7 +21,6 @@ use Rattle.card_record.specs.Record.{size_of, length_read}
 use Rattle.card_record.specs.declared.Card.{Card}
 use Rattle.card_record.specs.declared.Link.{Link}
 use Rattle.card_record.specs.declared.Made.{Made as MadeOf}
-use Rattle.card_record.specs.declared.Making.TheVariants.{Done}
 use Rattle.card_record.specs.declared.Registers.{Registers}
 use Rattle.command.specs.Arguments.{write_fault, argument_fault}
 use Rattle.command.specs.Command.{met_by, command_of}
@@ -34,8 +33,6 @@ use Rattle.demands.specs.InSpi.{TakenInSpi, FaultedInSpi}
 use Rattle.demands.specs.Silenced.{Taken, Reads}
 use Rattle.lock.specs.Passwords.{lock_made as lock_made_of}
 use Rattle.lock.specs.declared.Lock.{Lock}
-use Rattle.lock.specs.declared.Making.{Making as LockMaking}
-use Rattle.lock.specs.declared.Making.TheVariants.{Done as LockDone, Refused as LockRefused}
 use Rattle.made.proofs.BlockLength.{length_left, reset_link}
 use Rattle.made.proofs.Links.{length_as}
 use Rattle.made.proofs.Run.{run_made}
@@ -55,7 +52,6 @@ use Rattle.states.specs.declared.Incoming.TheVariants.{One, Many}
 use Rattle.states.specs.declared.State.{State}
 use Rattle.states.specs.declared.State.TheVariants.{Idle, Ready, Ident, Stby, Tran, Data, Rcv, Prg, Dis, Ina}
 use Rattle.status.specs.ErrorBits.{error_bit}
-use Rattle.status.specs.declared.Fault.TheVariants.{Bit}
 use Rattle.store.specs.Lent.{seen}
 use Rattle.store.specs.Map.{map_right}
 use Rattle.store.specs.Memory.{size_allowed}
@@ -63,15 +59,17 @@ use Rattle.wire.specs.Responses.{register_right}
 use Rattle.stored.specs.AfterReset.{AfterReset, made, powered, idled, Unset, Unwritable}
 use Rattle.stored.specs.Changes.{AwaitsWrite}
 use Rattle.stored.proofs.FromMade.{work}
+use Rattle.std.specs.Prelude.{Result, Ok, Err, Some}
+use Rattle.base.specs.declared.Refusal.{Refusal}
 
 -- ---- a make
 -- one that is refused makes nothing
 abbrev Fresh : MadeOf → Type 0
-Fresh given = given.making ≡ Done → given.card.link ≡ fresh_link
+Fresh given = given.making ≡ Ok tt → given.card.link ≡ fresh_link
 
-locked_fresh : (registers : Registers) (lock : Lock) (making : LockMaking) → Fresh (locked_by registers lock making)
-locked_fresh registers lock LockDone e = refl
-locked_fresh registers lock (LockRefused refusal) e = clash cc
+locked_fresh : (registers : Registers) (made : Result Lock Refusal) → Fresh (locked_by registers made)
+locked_fresh registers (Ok lock) e = refl
+locked_fresh registers (Err refusal) e = clash cc
 
 make_fresh : (cid csd : List ℕ) (ocr : ℕ) (password : List ℕ) (memory : ℕ) (map : List ℕ) → Fresh (made_of cid csd ocr password memory map)
 unfolding made_of password_made
@@ -81,7 +79,7 @@ make_fresh cid csd ocr password memory map =
     (λ t. guarded Fresh (register_right cid) (λ t e. clash cc)
     (λ t. guarded Fresh (register_right csd) (λ t e. clash cc)
     (λ t. guarded Fresh (not (eqb (window ocr) 0)) (λ t e. clash cc)
-    (λ t. locked_fresh _ (lock_made_of password).lock (lock_made_of password).making)))))
+    (λ t. locked_fresh _ (lock_made_of password))))))
 
 -- ---- CMD0
 awake : (link : Link) (state : State) → link.state ≡ state → (state ≡ Ina → ⊥) → is_inactive link ≡ false
@@ -146,12 +144,12 @@ module _ (card : Card) (right : Made card) (unsized : Unsized card.link.length) 
   awaits_none at (inl on) = unsized (work card right (One at) on).1.1.1
   awaits_none at (inr on) = unsized (work card right (Many at) on).1.1.1
 
-  length_fault_lem : (argument size : ℕ) → write_fault argument (length_read card.link.length) size ≡ Bit (error_bit 29)
+  length_fault_lem : (argument size : ℕ) → write_fault argument (length_read card.link.length) size ≡ Some (error_bit 29)
   length_fault_lem argument size = rw (length_as card.link.length right.link.block) (simp (ne_eqb card.link.length 512 unsized))
 
   module _ (wins : Bool) (argument : ℕ) (unlocked : card.lock.locked ≡ false) where
     abbrev Told : ℕ → Type 0
-    Told index = fault card.link (met_by card wins) index argument ≡ Bit (error_bit 29)
+    Told index = fault card.link (met_by card wins) index argument ≡ Some (error_bit 29)
 
     told_24 : Told 24
     unfolding judged_of tagging_of argument_fault

@@ -29,9 +29,8 @@ use Rattle.spi.proofs.Laws.{damage_unchanged}
 use Rattle.spi.specs.Hearing.{crc_passes}
 use Rattle.spi.specs.declared.Heard.{Heard}
 use Rattle.store.specs.Lent.{Seen}
-use Rattle.wire.specs.Frames.{checked, frame_of}
-use Rattle.wire.specs.declared.Frame.TheVariants.{Command}
-use Rattle.wire.specs.declared.Framing.TheVariants.{Framed}
+use Rattle.wire.specs.Frames.{checked, frame_of, as_fields, as_command}
+use Rattle.std.specs.Prelude.{Ok}
 
 -- ---- what changes in what is lent
 module _ (index argument : ℕ) where
@@ -96,8 +95,8 @@ right_in_mmc mode index true here e = refl
 right_in_mmc mode index false here e = never (sym (ap (λ (s : Bool). s && (not mode.checks && not (eqb index 0))) here) ∙ e)
 
 pub read_in_mmc : (card : Card) (selected : Bool) (frame : List ℕ) (index argument : ℕ) → card.mode.spi ≡ false
-    → HeardAs card selected frame index argument → frame_of frame ≡ Command index argument
+    → HeardAs card selected frame index argument → frame_of frame ≡ Ok (as_command index argument)
 unfolding frame_of
 read_in_mmc card selected frame index argument here heard =
     ap checked heard.framing
-    ∙ ap (λ (r : Bool). checked (Framed index argument r)) (right_in_mmc card.mode index heard.right here heard.crc)
+    ∙ ap (λ (r : Bool). checked (Ok (as_fields index argument r))) (right_in_mmc card.mode index heard.right here heard.crc)

@@ -24,9 +24,9 @@ use Rattle.states.specs.declared.Incoming.{Incoming}
 use Rattle.states.specs.declared.Incoming.TheVariants.{LockRequest}
 use Rattle.states.specs.declared.State.TheVariants.{Rcv}
 use Rattle.store.specs.Lent.{Seen, lending_of}
-use Rattle.store.specs.declared.Lending.TheVariants.{Right}
 use Rattle.wire.proofs.BlockTheorems.{long, good, check_after_write}
 use Rattle.wire.specs.Blocks.{longest_block, block_of, payload_of, crc_in}
+use Rattle.std.specs.Prelude.{Ok}
 
 -- ---- the start byte
 starts : (spi : Bool) (block : List ℕ) → started spi (with_start spi block) ≡ true
@@ -51,7 +51,7 @@ crc_passes_lem : (mode : Mode) (block : List ℕ) → eqb (crc_in block) (crc16 
 crc_passes_lem mode block e = ap (λ (b : Bool). mode.spi && not mode.checks || b) e ∙ or_true (mode.spi && not mode.checks)
 
 -- ---- 12 and 15
-pub reaches : (card : Card) (block : List ℕ) (seen : Seen) (incoming : Incoming) → lending_of seen card.registers.groups ≡ Right
+pub reaches : (card : Card) (block : List ℕ) (seen : Seen) (incoming : Incoming) → lending_of seen card.registers.groups ≡ Ok tt
     → card.link.state ≡ Rcv incoming → block_judged card block seen ≡ awaited_judged card incoming block seen.map
 unfolding block_judged
 reaches card block seen incoming right on = rw (right, on)
@@ -81,6 +81,6 @@ module _ (spi : Bool) (card : Card) (payload : List ℕ) (here : card.mode.spi �
       let whole = eq-eqb (length framed) (length payload + beside spi) (start_length spi (block_of payload) (length payload) (long payload)) in
       rw (n, here, whole, starts spi (block_of payload), behind_start spi (block_of payload), crc_passes_lem mode (block_of payload) crc_right_lem, payload_back)
 
-  pub request_right : (seen : Seen) → lending_of seen card.registers.groups ≡ Right → card.link.state ≡ Rcv LockRequest
+  pub request_right : (seen : Seen) → lending_of seen card.registers.groups ≡ Ok tt → card.link.state ≡ Rcv LockRequest
       → length_read card.link.length ≡ length payload → block_judged card framed seen ≡ request_judged card payload
   request_right seen right on n = reaches card framed seen LockRequest right on ∙ framed_right LockRequest n seen.map

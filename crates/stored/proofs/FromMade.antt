@@ -17,7 +17,6 @@ use lib.ListN.{length}
 use Rattle.base.proofs.Cases.{opposite}
 use Rattle.card.specs.Step.{step_of}
 use Rattle.card.specs.declared.Call.{Call}
-use Rattle.card_blocks.specs.declared.Outcome.TheVariants.{Done}
 use Rattle.lock.proofs.Stored.{stored_length}
 use Rattle.made.specs.Made.{Waits, Awaits, Made}
 use Rattle.made.specs.Run.{World, outcome_of}
@@ -33,6 +32,7 @@ use Rattle.stored.specs.Locked.{LockedCard, UnlockGranted}
 use Rattle.stored.specs.ReadBack.{block_in, stored_then_read, stored_stopped_then_read, framed_sector, Awaiting, ReadsBack}
 use Rattle.stored.proofs.Locked.{locked_keeps, unlocks_by_request}
 use Rattle.stored.proofs.ReadBack.{read_back, read_back_many}
+use Rattle.std.specs.Prelude.{Ok, None}
 
 module _ (card : Card) (made : Made card) where
   -- what a made card in rcv awaits
@@ -64,7 +64,7 @@ module _ (card : Card) (made : Made card) where
       made_unlocks_only seen room =
           unlocks_by_request card call input seen room locked (omega (arith, made.lock.locked locked, stored_length card.lock made.lock.bytes))
 
-module _ (w : World) (block : List ℕ) (at : ℕ) (made : Made w.card) (output : List ℕ) (granted : outcome_of w (block_in block) ≡ Done) where
+module _ (w : World) (block : List ℕ) (at : ℕ) (made : Made w.card) (output : List ℕ) (granted : outcome_of w (block_in block) ≡ Ok None) where
   pub made_read_back : (spi : Bool) → w.card.mode.spi ≡ spi → framed_sector spi ≤ length output → w.card.link.state ≡ Rcv (One at)
       → ReadsBack spi block (stored_then_read spi w block at) output
   made_read_back spi here room on = read_back spi w block at here (made_awaiting w.card made at (inl on)) output room on granted

@@ -15,7 +15,6 @@ use Rattle.card_blocks.proofs.Outcomes.{WritesAt, one, many}
 use Rattle.card_blocks.specs.BlockIn.{awaited_length, block_good, write_judged, carried_out}
 use Rattle.card_blocks.specs.Framing.{unstarted, with_start}
 use Rattle.card_blocks.specs.declared.BlockJudged.{BlockJudged}
-use Rattle.card_blocks.specs.declared.Outcome.TheVariants.{Done}
 use Rattle.crc.specs.Crc.{crc16}
 use Rattle.made.specs.Run.{World, outcome_of, output_after}
 use Rattle.card_record.specs.Record.{size_of}
@@ -27,6 +26,7 @@ use Rattle.wire.specs.Blocks.{block_of}
 use Rattle.stored.specs.ReadBack.{block_in, block_out, stored_then_read, stored_stopped_then_read, framed_sector, Awaiting, Writable}
 use Rattle.stored.proofs.Framed.{behind_start, reaches, framed_right}
 use Rattle.stored.proofs.ReadBack.{read_back, read_back_many}
+use Rattle.std.specs.Prelude.{Ok, None}
 
 module _ (spi : Bool) (w : World) (payload : List ℕ) (at : ℕ) (here : w.card.mode.spi ≡ spi) (sector : length payload ≡ 512) (writable : Writable w at) where
   -- the payload as it comes in
@@ -36,7 +36,7 @@ module _ (spi : Bool) (w : World) (payload : List ℕ) (at : ℕ) (here : w.card
   in_memory : at / 512 < size_of w.card.registers.groups / 512
   in_memory = omega (arith, writable.in_range)
 
-  write_good : {incoming : Incoming} → WritesAt incoming at → (carried_out w.card incoming payload w.lent.map).stepped.reply.outcome ≡ Done
+  write_good : {incoming : Incoming} → WritesAt incoming at → (carried_out w.card incoming payload w.lent.map).stepped.reply.outcome ≡ Ok None
   unfolding write_judged block_good
   write_good (one at) = rw (lt-ltb (at / 512) (size_of w.card.registers.groups / 512) in_memory, writable.free)
   write_good (many at) = rw (lt-ltb (at / 512) (size_of w.card.registers.groups / 512) in_memory, writable.free)
@@ -45,7 +45,7 @@ module _ (spi : Bool) (w : World) (payload : List ℕ) (at : ℕ) (here : w.card
   write_long (one at) = sym sector
   write_long (many at) = sym sector
 
-  pub good_granted : {incoming : Incoming} → WritesAt incoming at → w.card.link.state ≡ Rcv incoming → outcome_of w (block_in block) ≡ Done
+  pub good_granted : {incoming : Incoming} → WritesAt incoming at → w.card.link.state ≡ Rcv incoming → outcome_of w (block_in block) ≡ Ok None
   good_granted {incoming} writes state =
       let right = framed_right spi w.card payload here (omega arith) (omega arith) incoming (write_long writes) w.lent.map in
       ap (λ (j : BlockJudged). j.stepped.reply.outcome) (reaches w.card block (seen w.lent) incoming writable.right state ∙ right) ∙ write_good writes

@@ -16,7 +16,6 @@ use Rattle.base.proofs.Cases.{never}
 use Rattle.base.specs.Choice.{unless}
 use Rattle.base.specs.Refusals.{by}
 use Rattle.card.specs.Frame.{commanded, hearing, frame_judged}
-use Rattle.card_blocks.specs.declared.Outcome.TheVariants.{Done, Refused}
 use Rattle.card_blocks.specs.declared.Stepped.{Stepped}
 use Rattle.card_record.specs.Record.{size_of, with_state}
 use Rattle.card_record.specs.declared.Card.{Card}
@@ -49,14 +48,13 @@ use Rattle.states.specs.declared.Incoming.TheVariants.{LockRequest}
 use Rattle.states.specs.declared.State.{State}
 use Rattle.states.specs.declared.State.TheVariants.{Tran, Rcv}
 use Rattle.status.specs.ErrorBits.{error_bit}
-use Rattle.status.specs.declared.Fault.TheVariants.{Bit}
 use Rattle.store.specs.Lent.{Lent, seen, lending_of}
-use Rattle.store.specs.declared.Lending.TheVariants.{Right}
 use Rattle.tags.specs.Tagging.{no_tags}
 use Rattle.tags.specs.declared.Tagging.{Tagging}
 use Rattle.wire.specs.Blocks.{longest_block}
-use Rattle.wire.specs.declared.Framing.TheVariants.{Framed}
 use Rattle.stored.specs.Opening.{Carries, r1_in, behind_r1}
+use Rattle.std.specs.Prelude.{Ok, Err, Some, None}
+use Rattle.wire.specs.Frames.{as_fields}
 
 -- ---- check 5
 -- "class 0, CMD16 and CMD42": a command that passes the lock is judged by its argument alone
@@ -152,18 +150,18 @@ module _ (spi : Bool) (card : Card) (wins selected : Bool) (heeds : Heeds spi ca
       at_card 42 argument (Rcv LockRequest) card.link.length (requested card.mode card.link met spi selected argument right low_here)
 
 -- ---- whole calls
-module _ (world : World) (input : Input) (index argument : ℕ) (right : lending_of (seen world.lent) world.card.registers.groups ≡ Right)
+module _ (world : World) (input : Input) (index argument : ℕ) (right : lending_of (seen world.lent) world.card.registers.groups ≡ Ok tt)
     (brings : Brings world.card input index argument) (heard : Heard)
     (is : heard_of world.card.mode brings.selected world.card.link (met_by world.card brings.wins) index argument ≡ heard) where
-  judged : frame_judged world.card brings.wins brings.selected input.bytes (seen world.lent) ≡ commanded world.card Done heard
+  judged : frame_judged world.card brings.wins brings.selected input.bytes (seen world.lent) ≡ commanded world.card (Ok None) heard
   judged =
-      judged_as world.card brings.wins brings.selected input.bytes (seen world.lent) right (Framed index argument brings.heard.right)
+      judged_as world.card brings.wins brings.selected input.bytes (seen world.lent) right (Ok (as_fields index argument brings.heard.right))
       brings.heard.framing
       ∙ ap (λ (t : Bool).
-      unless t (commanded world.card (Refused (by 3)) (damaged_of world.card.mode brings.selected world.card.link))
-      (commanded world.card Done (heard_of world.card.mode brings.selected world.card.link (met_by world.card brings.wins) index argument)))
+      unless t (commanded world.card (Err (by 3)) (damaged_of world.card.mode brings.selected world.card.link))
+      (commanded world.card (Ok None) (heard_of world.card.mode brings.selected world.card.link (met_by world.card brings.wins) index argument)))
       brings.heard.crc
-      ∙ ap (commanded world.card Done) is
+      ∙ ap (commanded world.card (Ok None)) is
 
   pub carries_heard : heard.change ≡ Nothing → Carries world input heard.sent (record { card = hearing world.card heard; lent = world.lent })
   unfolding next
@@ -176,7 +174,7 @@ module _ (world : World) (input : Input) (index argument : ℕ) (right : lending
         left = ap₂ (λ (s : Stepped) (l : Lent). record { card = s.card; lent = l }) unlent.step unlent.lent_kept;
       })
 
-pub sets_length : (world : World) (input : Input) (n : ℕ) → lending_of (seen world.lent) world.card.registers.groups ≡ Right → Sets world.card input n
+pub sets_length : (world : World) (input : Input) (n : ℕ) → lending_of (seen world.lent) world.card.registers.groups ≡ Ok tt → Sets world.card input n
     → (next world input).card.link.length ≡ n
 sets_length world input n right sets =
     let brings = sets.brought in
@@ -189,12 +187,12 @@ sets_length world input n right sets =
 abbrev pub NoLength : ℕ → Type 0
 NoLength n = (n ≡ 0) ⊎ (longest_block < n)
 
-argument_wrong : (link : Link) (size n : ℕ) → NoLength n → (tagging_of link size 16 n).error ≡ Bit (error_bit 29)
+argument_wrong : (link : Link) (size n : ℕ) → NoLength n → (tagging_of link size 16 n).error ≡ Some (error_bit 29)
 unfolding tagging_of argument_fault
-argument_wrong link size n (inl none) = subst⁻¹ (λ (k : ℕ). (tagging_of link size 16 k).error ≡ Bit (error_bit 29)) none refl
+argument_wrong link size n (inl none) = subst⁻¹ (λ (k : ℕ). (tagging_of link size 16 k).error ≡ Some (error_bit 29)) none refl
 argument_wrong link size n (inr long) = simp (le-leb 1 n (omega arith), lt-leb n 2048 long)
 
-length_wrong : (card : Card) (wins : Bool) (n : ℕ) → NoLength n → fault card.link (met_by card wins) 16 n ≡ Bit (error_bit 29)
+length_wrong : (card : Card) (wins : Bool) (n : ℕ) → NoLength n → fault card.link (met_by card wins) 16 n ≡ Some (error_bit 29)
 unfolding class_of
 length_wrong card wins n wrong =
     ap (λ (t : Tagging). t.error) (past_lock card.link card.registers.groups card.lock.locked 16 n refl)

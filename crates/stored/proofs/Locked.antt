@@ -15,6 +15,8 @@ use native.Mathlib.Omega.{arith}
 use borrow.Author.Tests.{leb-false, eqb-true}
 use lib.Dec.{eqb}
 use lib.ListN.{length, get_or}
+use Rattle.wire.specs.declared.Fields.{Fields}
+use Rattle.wire.proofs.Told.{fields_told}
 use Rattle.base.proofs.Cases.{cases, picked, clash, opposite}
 use Rattle.base.specs.Choice.{pick}
 use Rattle.base.specs.Refusals.{by}
@@ -26,7 +28,6 @@ use Rattle.card.specs.Step.{step_of}
 use Rattle.card_blocks.specs.declared.BlockJudged.{BlockJudged}
 use Rattle.card.specs.declared.Call.{Call}
 use Rattle.card.specs.declared.Call.TheVariants.{Frame, BlockIn, BlockOut, WorkDone, PowerOn}
-use Rattle.card_blocks.specs.declared.Outcome.TheVariants.{Done, Refused}
 use Rattle.card_blocks.specs.declared.Stepped.{Stepped}
 use Rattle.command.specs.Command.{met_by, damaged_link}
 use Rattle.command.specs.Obey.{passes_lock}
@@ -58,14 +59,13 @@ use Rattle.spi.specs.declared.Heard.{Heard}
 use Rattle.spi_moves.specs.Moves.{row_of, move_of}
 use Rattle.states.specs.States.{column_of}
 use Rattle.store.specs.Lent.{Lent, Seen, seen}
-use Rattle.wire.specs.Frames.{framing_of}
-use Rattle.wire.specs.declared.Framing.TheVariants.{Framed}
+use Rattle.wire.specs.Frames.{framing_of, as_fields}
 use Rattle.stored.specs.Changes.{SetBy, ByteChanges, EntryChanges, payload_at, ForcedErase, Cause, written, erased, forced, MapCause, set}
-use Rattle.stored.specs.Locked.{LockedCard, UnlockGranted, Unlocking, none_stored, unlocked, Unmoved}
-use Rattle.stored.specs.Locked.{forced as by_force}
+use Rattle.stored.specs.Locked.{LockedCard, UnlockGranted, Unlocking, none_stored, unlocked, Unmoved, forced as by_force}
 use Rattle.stored.proofs.Changes.{forces_all, memory_changes, map_changes}
 use Rattle.stored.proofs.Commands.{FrameChange, nothing, protects, frees, erases, frame_change}
 use Rattle.stored.proofs.Requests.{Asks, fails, unlocks, others, erases as erased_all, asks}
+use Rattle.std.specs.Prelude.{Ok, Err, None}
 
 -- ---- memory and map
 module _ (card : Card) (wins selected : Bool) (frame : List ℕ) (seen : Seen) where
@@ -216,7 +216,7 @@ module _ (card : Card) (wins selected : Bool) (frame : List ℕ) (seen : Seen) (
   module _ (locked : card.lock.locked ≡ true) (stops : passes_lock true index ≡ false) where
     took_held : (mode : Mode) (sent : Sent) {next : Link} {change : Change} → mode ≡ card.mode
         → Took card.link (met_by card wins) index argument next change
-        → Held (commanded card Done (record { mode = mode; link = next; sent = sent; change = change }))
+        → Held (commanded card (Ok None) (record { mode = mode; link = next; sent = sent; change = change }))
     unfolding class_of
     took_held mode sent m (stopped tags errors) = record { state = refl; address = refl; length_kept = refl; mode = m; change = refl }
     took_held mode sent m (reset errors z) = opposite true refl (rw z at stops)
@@ -225,7 +225,7 @@ module _ (card : Card) (wins selected : Bool) (frame : List ℕ) (seen : Seen) (
 
     -- bit 23 is an error bit
     abbrev Damaged : Heard → Type 0
-    Damaged heard = Held (commanded card (Refused (by 3)) heard)
+    Damaged heard = Held (commanded card (Err (by 3)) heard)
 
     damage_held : Damaged (damaged_of card.mode selected card.link)
     unfolding damaged_of faulted answered_in damaged_link
@@ -241,19 +241,18 @@ module _ (card : Card) (wins selected : Bool) (frame : List ℕ) (seen : Seen) (
         (λ t. record { state = refl; address = refl; length_kept = refl; mode = refl; change = refl }))
 
     framed_held : (right : Bool) {judged : FrameJudged} → FrameOutcome card wins selected frame seen judged
-        → framing_of frame ≡ Framed index argument right → Held judged
+        → framing_of frame ≡ Ok (as_fields index argument right) → Held judged
     framed_held right (unheard n listed) e = record { state = refl; address = refl; length_kept = refl; mode = refl; change = refl }
     framed_held right (damaged i a c wrong) e = damage_held
     framed_held right (commands i a r c passes l) e =
-        let ei : i ≡ index = cc in
-        let ea : a ≡ argument = cc in
-        rw (ei, ea)
+        let told = fields_told (sym c ∙ e) in
+        rw (ap (λ (f : Fields). f.index) told, ap (λ (f : Fields). f.argument) told)
         (took_held _ _ (heard_mode index stops card.mode card.link (met_by card wins) argument selected)
         (heard_took card.link (met_by card wins) index argument card.mode selected))
 
 -- a frame of an index and an argument, whether its CRC7 is right or not
 module _ (card : Card) (wins selected : Bool) (frame : List ℕ) (lent : Lent) (room index argument : ℕ) (right : Bool) (locked : card.lock.locked ≡ true)
-    (is : framing_of frame ≡ Framed index argument right) where
+    (is : framing_of frame ≡ Ok (as_fields index argument right)) where
   pub held_back : passes_lock true index ≡ false → Unmoved card wins selected frame lent room
   unfolding frame_stepped
   held_back stops =

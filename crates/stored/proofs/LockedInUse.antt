@@ -30,8 +30,6 @@ use Rattle.card.specs.Frame.{frame_judged, frame_stepped}
 use Rattle.card_blocks.specs.Framing.{unstarted}
 use Rattle.card_blocks.specs.declared.BlockJudged.{BlockJudged}
 use Rattle.card.specs.declared.Call.TheVariants.{Frame, WorkDone}
-use Rattle.card_blocks.specs.declared.Outcome.{Outcome}
-use Rattle.card_blocks.specs.declared.Outcome.TheVariants.{Done, Refused}
 use Rattle.card_blocks.specs.declared.Storing.TheVariants.{Nothing}
 use Rattle.command.specs.Answers.{response_of, answered}
 use Rattle.command.specs.Arguments.{argument_fault}
@@ -52,7 +50,6 @@ use Rattle.moves.specs.Moves.{move_of}
 use Rattle.moves.specs.Rows.{transfer_row, row_of}
 use Rattle.card_record.specs.Making.{password_made, made_of}
 use Rattle.card_record.specs.Power.{default_length, fresh_link, worked}
-use Rattle.card_record.specs.declared.Making.TheVariants.{Done as MakeDone}
 use Rattle.spi.specs.Answers.{answered_in}
 use Rattle.spi.specs.Hearing.{taken_in, spi_heard, heard_of}
 use Rattle.spi_answers.specs.Answers.{r1_of, cleared_r1}
@@ -73,11 +70,13 @@ use Rattle.stored.specs.ReadBack.{commanded}
 use Rattle.stored.proofs.Framed.{request_right}
 use Rattle.stored.proofs.InUse.{lent, card_with, commands, to_tran, answer}
 use Rattle.stored.proofs.Opening.{opens}
+use Rattle.std.specs.Prelude.{Result, Option, Ok, Err, None}
+use Rattle.base.specs.declared.Refusal.{Refusal}
 
 abbrev made : World
 made = begun register register 0x00FF8000 (0x2A ∷ []) lent
 
-pub locked_made : ((made_lent register register 0x00FF8000 (0x2A ∷ []) lent).making ≡ MakeDone) × (made.card.lock.locked ≡ true)
+pub locked_made : ((made_lent register register 0x00FF8000 (0x2A ∷ []) lent).making ≡ Ok tt) × (made.card.lock.locked ≡ true)
 unfolding made_of password_made lock_made_of holding powered_of stored register_right last_byte crc7_of remainder divide bits entries_right
 locked_made = (refl, refl)
 
@@ -145,7 +144,7 @@ abbrev left : Bool → ℕ → BlockJudged → World
 left spi byte given = record { card = given.stepped.card; lent = stored_by (unstarted spi (request spi byte).bytes) given.storing lent }
 
 -- a request that stores nothing: the card that it leaves, and what became of it
-abbrev becoming : World → Outcome → BlockJudged
+abbrev becoming : World → Result (Option ℕ) Refusal → BlockJudged
 becoming world outcome = record { stepped = block_replied world.card outcome; storing = Nothing }
 
 reads : (spi : Bool) (byte : ℕ) → judged spi byte ≡ request_judged (awaiting spi).card (unlock byte)
@@ -153,11 +152,11 @@ unfolding entries_right
 reads spi byte = request_right spi (awaiting spi).card (unlock byte) refl (omega arith) (omega arith) (seen lent) refl refl refl
 
 -- ---- a wrong password, and CMD42 anew
-wrong_judged : (spi : Bool) → judged spi 0x2B ≡ becoming (failed spi) (Refused (by 20))
+wrong_judged : (spi : Bool) → judged spi 0x2B ≡ becoming (failed spi) (Err (by 20))
 unfolding request_judged request_of presented password_in stored same holding block_refused
 wrong_judged spi = reads spi 0x2B
 
-pub wrong_fails : (spi : Bool) → (outcome_of (awaiting spi) (request spi 0x2B) ≡ Refused (by 20)) × (next (awaiting spi) (request spi 0x2B) ≡ failed spi)
+pub wrong_fails : (spi : Bool) → (outcome_of (awaiting spi) (request spi 0x2B) ≡ Err (by 20)) × (next (awaiting spi) (request spi 0x2B) ≡ failed spi)
 unfolding next
 wrong_fails spi = (ap (λ (j : BlockJudged). j.stepped.reply.outcome) (wrong_judged spi), ap (left spi 0x2B) (wrong_judged spi))
 
@@ -167,11 +166,11 @@ unfolding next crc7_of remainder divide bits entries_right command_frame sealed 
 asks_again = refl
 
 -- ---- the right one
-right_judged : (spi : Bool) → judged spi 0x2A ≡ becoming (card_in spi Prg 3 no_errors false) Done
+right_judged : (spi : Bool) → judged spi 0x2A ≡ becoming (card_in spi Prg 3 no_errors false) (Ok None)
 unfolding request_judged request_of presented password_in stored same holding block_good
 right_judged spi = reads spi 0x2A
 
-pub right_unlocks : (spi : Bool) → (outcome_of (awaiting spi) (request spi 0x2A) ≡ Done) × (next (awaiting spi) (request spi 0x2A) ≡ card_in spi Prg 3 no_errors false)
+pub right_unlocks : (spi : Bool) → (outcome_of (awaiting spi) (request spi 0x2A) ≡ Ok None) × (next (awaiting spi) (request spi 0x2A) ≡ card_in spi Prg 3 no_errors false)
 unfolding next
 right_unlocks spi = (ap (λ (j : BlockJudged). j.stepped.reply.outcome) (right_judged spi), ap (left spi 0x2A) (right_judged spi))
 

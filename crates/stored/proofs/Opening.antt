@@ -12,7 +12,6 @@ use Rattle.card.specs.declared.Call.TheVariants.{WorkDone}
 use Rattle.card_blocks.specs.BlockIn.{block_good, request_judged, lock_judged, block_judged, stored_by}
 use Rattle.card_blocks.specs.Framing.{unstarted, response_to}
 use Rattle.card_blocks.specs.declared.BlockJudged.{BlockJudged}
-use Rattle.card_blocks.specs.declared.Outcome.TheVariants.{Done}
 use Rattle.card_blocks.specs.declared.Storing.TheVariants.{Nothing as Unstored}
 use Rattle.card_record.specs.Power.{worked}
 use Rattle.card_record.specs.Record.{csd_protects, with_lock}
@@ -33,6 +32,7 @@ use Rattle.tags.specs.Tagging.{any_of}
 use Rattle.stored.specs.Opening.{LockedInTran, unlock_request, Handheld, request_in, Carries, r1_in, behind_r1, standing, behind_set, sized_world, asked_world, opened_world, ready_world, Opens}
 use Rattle.stored.proofs.Framed.{request_right}
 use Rattle.stored.proofs.InTran.{length_heard, request_heard, carries_heard}
+use Rattle.std.specs.Prelude.{Ok, None}
 
 module _ (world : World) (card : LockedInTran world) (surplus : List ℕ) (set ask : Input)
     (sent : Handheld world (unlock_request world.card.lock surplus) set ask) where
@@ -88,7 +88,7 @@ module _ (world : World) (card : LockedInTran world) (surplus : List ℕ) (set a
       in
       let carried = carries_heard world set 16 n card.right brings _ heard refl in
       record {
-        reply = carried.reply ∙ ap₂ (λ (e : Errors) (l : Bool). record { outcome = Done; sent = r1_in spi 16 e l }) untold card.locked;
+        reply = carried.reply ∙ ap₂ (λ (e : Errors) (l : Bool). record { outcome = Ok None; sent = r1_in spi 16 e l }) untold card.locked;
         left = carried.left
             ∙ ap₂ (λ (e : Errors) (l : Lock). record { card = with_lock (standing world Tran n (behind_r1 spi e) true).card l; lent = world.lent }) untold lock_is;
       }
@@ -113,7 +113,7 @@ module _ (world : World) (card : LockedInTran world) (surplus : List ℕ) (set a
       ∙ ap (λ (r : Requested). lock_judged second.card r.lock r.answer)
       (unlock_granted (flagged lock true) (stored lock) surplus (csd_protects world.card.registers.csd) refl some refl)
 
-  opened : Carries second (request_in spi request) (response_to spi Done) third
+  opened : Carries second (request_in spi request) (response_to spi (Ok None)) third
   unfolding next block_good
   opened =
       record {

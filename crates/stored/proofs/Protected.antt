@@ -19,7 +19,6 @@ use Rattle.card_blocks.specs.BlockIn.{block_refused, block_good, block_judged}
 use Rattle.card.specs.Step.{lent_after}
 use Rattle.card_blocks.specs.declared.BlockJudged.{BlockJudged}
 use Rattle.card.specs.declared.Call.{Call}
-use Rattle.card_blocks.specs.declared.Outcome.TheVariants.{Done}
 use Rattle.card_blocks.specs.declared.Storing.TheVariants.{All}
 use Rattle.made.proofs.Run.{lent_lengths}
 use Rattle.card_record.specs.Record.{csd_protects}
@@ -32,6 +31,7 @@ use Rattle.store.specs.Map.{protected_in}
 use Rattle.stored.specs.Changes.{AwaitsWrite, ProtectedByte, ByteChanges, payload_at, ForcedErase, Cause, written, erased, forced}
 use Rattle.stored.proofs.Changes.{memory_changes}
 use Rattle.stored.proofs.Requests.{asks_erase}
+use Rattle.std.specs.Prelude.{Ok, None}
 
 -- ---- what is granted
 module _ (card : Card) (at : ℕ) where
@@ -45,7 +45,7 @@ module _ (card : Card) (at : ℕ) where
   no_request s (inr a) = clash cc
 
 module _ (card : Card) (block : List ℕ) (seen : Seen) where
-  free : (at : ℕ) {judged : BlockJudged} → InOutcome card block seen judged → AwaitsWrite card at → judged.stepped.reply.outcome ≡ Done
+  free : (at : ℕ) {judged : BlockJudged} → InOutcome card block seen judged → AwaitsWrite card at → judged.stepped.reply.outcome ≡ Ok None
       → protected_in seen.map (csd_protects card.registers.csd) (at / 512) ≡ false
   unfolding block_refused block_good
   free at (unreads n listed) a d = clash cc
@@ -54,7 +54,7 @@ module _ (card : Card) (block : List ℕ) (seen : Seen) where
   free at (grants s e) a d = no_request card at s a
   free at (forces s e) a d = no_request card at s a
 
-  pub granted_free : (at : ℕ) → AwaitsWrite card at → (block_judged card block seen).stepped.reply.outcome ≡ Done
+  pub granted_free : (at : ℕ) → AwaitsWrite card at → (block_judged card block seen).stepped.reply.outcome ≡ Ok None
       → protected_in seen.map (csd_protects card.registers.csd) (at / 512) ≡ false
   granted_free at = free at (block_outcome card block seen)
 
@@ -80,7 +80,7 @@ module _ (card : Card) (call : Call) (input : List ℕ) (lent : Lent) where
 
   by_cause : (sector : ℕ) → guarded sector ≡ true → Cause card call input (seen lent) sector → ForcedErase card call input (seen lent)
   by_cause sector g (written at w e) =
-      let done : (block_judged card input (seen lent)).stepped.reply.outcome ≡ Done = rw w.called at (w.granted 0) in
+      let done : (block_judged card input (seen lent)).stepped.reply.outcome ≡ Ok None = rw w.called at (w.granted 0) in
       opposite (guarded (at / 512)) (rw e at g) (granted_free card input (seen lent) at w.awaited done)
   by_cause sector g (erased t) = opposite (guarded sector) g t.unprotected
   by_cause sector g (forced f) = f

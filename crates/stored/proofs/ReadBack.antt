@@ -21,7 +21,6 @@ use Rattle.card_blocks.proofs.Laying.{laid_whole}
 use Rattle.card_blocks.specs.declared.BlockJudged.{BlockJudged}
 use Rattle.card.specs.declared.Call.TheVariants.{WorkDone}
 use Rattle.card_blocks.specs.declared.OutJudged.{OutJudged}
-use Rattle.card_blocks.specs.declared.Outcome.TheVariants.{Done, Wrote}
 use Rattle.card_blocks.specs.declared.Sending.TheVariants.{Part}
 use Rattle.card_blocks.specs.declared.Stepped.{Stepped}
 use Rattle.card_blocks.specs.declared.Storing.TheVariants.{Sector}
@@ -40,13 +39,13 @@ use Rattle.store.proofs.OnceLent.{right_parts}
 use Rattle.store.proofs.Sectors.{written_length, read_back as sector_back}
 use Rattle.store.specs.Lent.{Lent, Seen, seen, lending_of}
 use Rattle.store.specs.Memory.{part_of}
-use Rattle.store.specs.declared.Lending.TheVariants.{Right}
 use Rattle.wire.specs.Blocks.{block_of}
 use Rattle.wire.specs.Frames.{command_frame}
 use Rattle.wire.proofs.FrameTheorems.{read_after_write}
 use Rattle.stored.specs.ReadBack.{commanded, block_in, block_out, read_again, stored_then_read, stored_stopped_then_read, framed_sector, Awaiting, ReadsBack}
 use Rattle.stored.proofs.Framed.{start_length}
 use Rattle.stored.proofs.Runs.{Leaves, heard_at, leaves_12, leaves_16, leaves_17}
+use Rattle.std.specs.Prelude.{Ok, Some, None}
 
 -- ---- the block in
 record Stored (card : Card) (incoming : Incoming) (at : ℕ) (block : List ℕ) (seen : Seen) (judged : BlockJudged) : Type 0 where
@@ -58,7 +57,7 @@ no_write (one at) e = clash cc
 no_write (many at) e = clash cc
 
 module _ (card : Card) (block : List ℕ) (seen : Seen) (incoming : Incoming) (at : ℕ) (w : WritesAt incoming at) (state : card.link.state ≡ Rcv incoming) where
-  stored_as : {judged : BlockJudged} → InOutcome card block seen judged → judged.stepped.reply.outcome ≡ Done → Stored card incoming at block seen judged
+  stored_as : {judged : BlockJudged} → InOutcome card block seen judged → judged.stepped.reply.outcome ≡ Ok None → Stored card incoming at block seen judged
   unfolding block_refused block_good
   stored_as (unreads n listed) d = clash cc
   stored_as (refuses other refusal fault s why) d = clash cc
@@ -74,7 +73,7 @@ block_length : (payload : List ℕ) → length payload ≡ 512 → length (block
 unfolding block_of
 block_length payload e = omega (arith, length-append payload (crc16 payload / 256 ∷ crc16 payload % 256 ∷ []))
 
-module _ (spi : Bool) (groups : ℕ) (lent : Lent) (right : lending_of (seen lent) groups ≡ Right) where
+module _ (spi : Bool) (groups : ℕ) (lent : Lent) (right : lending_of (seen lent) groups ≡ Ok tt) where
   -- an unlocked card in this mode and state, lent the same all the way
   record Holds (state : State) (w : World) : Type 0 where
     mode_is : w.card.mode.spi ≡ spi
@@ -83,7 +82,7 @@ module _ (spi : Bool) (groups : ℕ) (lent : Lent) (right : lending_of (seen len
     state_is : w.card.link.state ≡ state
     lent_is : w.lent ≡ lent
 
-  lent_to : (w : World) {state : State} → Holds state w → lending_of (seen w.lent) w.card.registers.groups ≡ Right
+  lent_to : (w : World) {state : State} → Holds state w → lending_of (seen w.lent) w.card.registers.groups ≡ Ok tt
   lent_to w h = rw (h.lent_is, h.groups_are) right
 
   by_frame : (w : World) {from : State} (there : State) (n index argument : ℕ) → Holds from w → index < 64 → argument < 2 ^ 32
@@ -149,7 +148,7 @@ module _ (spi : Bool) (groups : ℕ) (lent : Lent) (right : lending_of (seen len
     in_memory = omega (arith, (right_parts (seen lent) groups right).0)
 
     again : (w : World) → Holds Prg w
-        → (outcome_of (read_again spi w at) (block_out output) ≡ Wrote (framed_sector spi))
+        → (outcome_of (read_again spi w at) (block_out output) ≡ Ok (Some (framed_sector spi)))
         × (take (framed_sector spi) (output_after (read_again spi w at) (block_out output)) ≡ with_start spi (block_of part))
     unfolding read_again out_good sent_out
     again w h =
@@ -166,7 +165,7 @@ module _ (spi : Bool) (groups : ℕ) (lent : Lent) (right : lending_of (seen len
         let sent : out_judged w3.card (seen w3.lent) (length output) ≡ out_good w3.card Tran 512 (Part at 512) =
         rw h3.0.lent_is (out_judged_lem w3.card h3.0.mode_is h3.0.groups_are h3.0.state_is h3.1)
         in (
-          ap (λ (j : OutJudged). j.stepped.reply.outcome) sent ∙ ap (λ (b : Bool). Wrote (framed_sector b)) h3.0.mode_is,
+          ap (λ (j : OutJudged). j.stepped.reply.outcome) sent ∙ ap (λ (b : Bool). Ok (Some (framed_sector b))) h3.0.mode_is,
           ap (λ (j : OutJudged). take (framed_sector spi) (sent_out w3.card w3.lent j.sending output)) sent
               ∙ ap (λ (b : Bool). take (framed_sector spi) (block_laid b (part_block w3.lent.memory at 512) output)) h3.0.mode_is
               ∙ ap (λ (l : Lent). take (framed_sector spi) (block_laid spi (part_block l.memory at 512) output)) h3.0.lent_is
@@ -180,7 +179,7 @@ module _ (spi : Bool) (w : World) (block : List ℕ) (at : ℕ) (here : w.card.m
   abbrev after : Lent
   after = stored_by (unstarted spi block) (Sector (at / 512)) w.lent
 
-  module _ (incoming : Incoming) (writes : WritesAt incoming at) (state : w.card.link.state ≡ Rcv incoming) (granted : outcome_of w (block_in block) ≡ Done) where
+  module _ (incoming : Incoming) (writes : WritesAt incoming at) (state : w.card.link.state ≡ Rcv incoming) (granted : outcome_of w (block_in block) ≡ Ok None) where
     judged : Stored w.card incoming at block (seen w.lent) (block_judged w.card block (seen w.lent))
     judged = stored_as w.card block (seen w.lent) incoming at writes state (block_outcome w.card block (seen w.lent)) granted
 
@@ -188,7 +187,7 @@ module _ (spi : Bool) (w : World) (block : List ℕ) (at : ℕ) (here : w.card.m
     lies_in : at + 512 ≤ size_of w.card.registers.groups
     lies_in = omega (arith, judged.storable.in_range, awaiting.aligned)
 
-    still_lent : lending_of (seen after) w.card.registers.groups ≡ Right
+    still_lent : lending_of (seen after) w.card.registers.groups ≡ Ok tt
     still_lent = rw (written_length w.lent.memory (unstarted spi block) (at / 512)) judged.storable.lent
 
     stored_holds : Holds spi w.card.registers.groups after still_lent (after_stored incoming (at / 512 * 512 + 512)) (next w (block_in block))
@@ -221,12 +220,12 @@ module _ (spi : Bool) (w : World) (block : List ℕ) (at : ℕ) (here : w.card.m
         let r = again spi w.card.registers.groups after still_lent at lies_in awaiting.aligned awaiting.small output room v h in
         record { wrote = r.0; front = r.1 ∙ ap (λ (b : List ℕ). with_start spi (block_of b)) same_bytes }
 
-  pub read_back : w.card.link.state ≡ Rcv (One at) → outcome_of w (block_in block) ≡ Done → ReadsBack spi block (stored_then_read spi w block at) output
+  pub read_back : w.card.link.state ≡ Rcv (One at) → outcome_of w (block_in block) ≡ Ok None → ReadsBack spi block (stored_then_read spi w block at) output
   read_back state granted = reads (One at) (one at) state granted (next w (block_in block)) (stored_holds (One at) (one at) state granted)
 
 module _ (w : World) (block : List ℕ) (at : ℕ) (here : w.card.mode.spi ≡ false) (awaiting : Awaiting w.card at) (output : List ℕ)
     (room : 514 ≤ length output) where
-  pub read_back_many : w.card.link.state ≡ Rcv (Many at) → outcome_of w (block_in block) ≡ Done
+  pub read_back_many : w.card.link.state ≡ Rcv (Many at) → outcome_of w (block_in block) ≡ Ok None
       → ReadsBack false block (stored_stopped_then_read w block at) output
   read_back_many state granted =
       let behind : ℕ = at / 512 * 512 + 512 in

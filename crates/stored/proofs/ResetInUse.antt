@@ -18,6 +18,8 @@ use borrow.Author.Tests.{eq-eqb}
 use lib.Dec.{eqb}
 use lib.ListN.{length, take, drop, replicate}
 use lib.Seq.{take_at}
+use Rattle.wire.specs.declared.Fields.{Fields}
+use Rattle.wire.proofs.Told.{index_told}
 use Rattle.base.proofs.Cases.{opposite}
 use Rattle.base.specs.Refusals.{by}
 use Rattle.card.specs.Frame.{frame_judged, frame_stepped}
@@ -27,7 +29,6 @@ use Rattle.card_blocks.specs.BlockIn.{block_refused, block_good, request_judged,
 use Rattle.card_blocks.specs.BlockOut.{out_good, part_judged, out_judged, part_block, sent_out}
 use Rattle.card_blocks.specs.Framing.{beside, unstarted, with_start}
 use Rattle.card_blocks.specs.declared.BlockJudged.{BlockJudged}
-use Rattle.card_blocks.specs.declared.Outcome.TheVariants.{Done, Wrote, Refused}
 use Rattle.card_blocks.specs.declared.Storing.TheVariants.{Nothing}
 use Rattle.card_record.specs.Making.{password_made, made_of}
 use Rattle.card_record.specs.Power.{fresh_link, powered_on}
@@ -59,14 +60,15 @@ use Rattle.store.specs.Lent.{seen}
 use Rattle.store.specs.Map.{entries_right}
 use Rattle.wire.proofs.BlockTheorems.{long}
 use Rattle.wire.specs.Blocks.{block_of}
-use Rattle.wire.specs.Frames.{crc7_of, sealed, command_frame, fields_of, framing_of}
+use Rattle.wire.specs.Frames.{crc7_of, sealed, command_frame, fields_of, framing_of, as_fields}
 use Rattle.wire.specs.Responses.{last_byte, register_right}
-use Rattle.wire.specs.declared.Framing.TheVariants.{Framed}
 use Rattle.stored.specs.AfterReset.{made, Unset, Unwritable}
 use Rattle.stored.specs.ReadBack.{commanded, block_in, block_out}
 use Rattle.stored.proofs.AfterReset.{until_set}
 use Rattle.stored.proofs.Framed.{start_length, request_right}
 use Rattle.stored.proofs.InUse.{lent, card_with, commands, to_tran, answer}
+use Rattle.std.specs.Prelude.{Result, Ok, Err, Some, None}
+use Rattle.base.specs.declared.Refusal.{Refusal}
 
 -- ---- the card
 abbrev holding_card : Bool → Lock → State → ℕ → World
@@ -84,8 +86,9 @@ abbrev begins : World
 begins = begun register register 0x00FF8000 [] lent
 
 -- a frame of another index is no CMD16
-another : (index : ℕ) {argument : ℕ} {right wrong : Bool} → Framed index argument right ≡ Framed 16 512 wrong → eqb index 16 ≡ false → ⊥
-another index e other = let same : index ≡ 16 = cc in opposite (eqb index 16) (eq-eqb index 16 same) other
+another : (index : ℕ) {argument : ℕ} {right wrong : Bool} → ◌≡◌ {A = Result Fields Refusal} (Ok (as_fields index argument right)) (Ok (as_fields 16 512 wrong))
+    → eqb index 16 ≡ false → ⊥
+another index e other = let same = index_told e in opposite (eqb index 16) (eq-eqb index 16 same) other
 
 pub comes_from_make : (spi : Bool) → run_of begins (to_tran spi) ≡ reset spi
 unfolding run_of next made_of password_made lock_made_of powered_of stored holding register_right last_byte fresh_link crc7_of remainder divide bits entries_right command_frame sealed framing_of fields_of frame_stepped frame_judged heard_of spi_heard row_in_spi move_in_spi taken_in answered_in cleared_r1 command_of row_of transfer_row move_of class_of taken_of acted_of after_checks answered response_of reset_told word_of judged_of tagging_of argument_fault obeyed awaited_by change_of
@@ -166,7 +169,7 @@ read_begins false = refl
 abbrev room : Input
 room = block_out (replicate 2051 0xA5)
 
-pub read_sends : (spi : Bool) → (outcome_of (reading spi) room ≡ Wrote (2048 + beside spi)) × (next (reading spi) room ≡ reset spi)
+pub read_sends : (spi : Bool) → (outcome_of (reading spi) room ≡ Ok (Some (2048 + beside spi))) × (next (reading spi) room ≡ reset spi)
 unfolding next out_judged part_judged out_good entries_right
 read_sends true = (refl, refl)
 read_sends false = (refl, refl)
@@ -197,7 +200,7 @@ request_begins true = refl
 request_begins false = refl
 
 -- one of 512 bytes
-pub short_refused : (spi : Bool) → outcome_of (asked spi) (block_in (with_start spi (replicate 514 0))) ≡ Refused (by 16)
+pub short_refused : (spi : Bool) → outcome_of (asked spi) (block_in (with_start spi (replicate 514 0))) ≡ Err (by 16)
 unfolding block_judged awaited_judged block_refused entries_right
 short_refused true = refl
 short_refused false = refl
@@ -213,7 +216,7 @@ judged : (spi : Bool) → block_judged (asked spi).card (request spi).bytes (see
 unfolding entries_right request_judged request_of settable password_in old_of new_of stored same holding
 judged spi = request_right spi (asked spi).card setting refl (omega arith) (omega arith) (seen lent) refl refl refl
 
-pub request_granted : (spi : Bool) → (outcome_of (asked spi) (request spi) ≡ Done) × (next (asked spi) (request spi) ≡ holding_card spi (holding (0x2A ∷ []) false) Prg 2048)
+pub request_granted : (spi : Bool) → (outcome_of (asked spi) (request spi) ≡ Ok None) × (next (asked spi) (request spi) ≡ holding_card spi (holding (0x2A ∷ []) false) Prg 2048)
 unfolding next block_good
 request_granted spi = (
   ap (λ (j : BlockJudged). j.stepped.reply.outcome) (judged spi),

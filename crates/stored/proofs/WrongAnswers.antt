@@ -19,13 +19,14 @@ use mathlib.Core.Logic.{◌⊎◌, inl, inr}
 use Prim.Native.Nat.{ℕ}
 use native.Mathlib.Omega.{arith}
 use lib.ListN.{length, get_or}
+use Rattle.wire.specs.declared.Fields.{Fields}
+use Rattle.wire.proofs.Told.{index_told, fields_told}
 use Rattle.base.proofs.Cases.{clash, opposite}
 use Rattle.base.specs.declared.Refusal.{Refusal}
 use Rattle.card_blocks.specs.BlockIn.{block_judged}
 use Rattle.card.specs.Frame.{frame_judged}
 use Rattle.card.specs.declared.Call.{Call}
 use Rattle.card.specs.declared.Call.TheVariants.{Frame, BlockIn, BlockOut, WorkDone, PowerOn}
-use Rattle.card_blocks.specs.declared.Outcome.TheVariants.{Refused}
 use Rattle.command.specs.declared.Change.TheVariants.{Protect}
 use Rattle.lock.specs.Passwords.{stored}
 use Rattle.lock.specs.Requests.{password_in}
@@ -37,11 +38,10 @@ use Rattle.states.specs.declared.State.TheVariants.{Rcv}
 use Rattle.store.specs.Lent.{Seen}
 use Rattle.store.specs.Map.{protected_in}
 use Rattle.tags.specs.Tags.{tagged_of}
-use Rattle.wire.specs.Frames.{framing_of}
-use Rattle.wire.specs.declared.Framing.TheVariants.{Framed}
+use Rattle.wire.specs.Frames.{framing_of, as_fields}
 use Rattle.stored.specs.Changes.{SetBy, GrantedWrite, payload_at, ForcedErase, Cause, written, erased as by_tag, forced, MapCause, set}
-use Rattle.stored.specs.Locked.{UnlockGranted, Unlocking, none_stored, unlocked}
-use Rattle.stored.specs.Locked.{forced as by_force}
+use Rattle.stored.specs.Locked.{UnlockGranted, Unlocking, none_stored, unlocked, forced as by_force}
+use Rattle.std.specs.Prelude.{Ok, Err}
 
 module _ (card : Card) (input : List ℕ) (seen : Seen) where
   -- a byte changes at a frame or at a block in, and at no other call
@@ -72,12 +72,12 @@ module _ (card : Card) (input : List ℕ) (seen : Seen) where
   untagged_erased wins selected sector u (by_tag t) = opposite (tagged_of card.link.tags sector) t.tagged u
   untagged_erased wins selected sector u (forced f) = let c = f.called in clash cc
 
-  status_erases : (wins selected : Bool) (sector argument : ℕ) (right : Bool) → framing_of input ≡ Framed 13 argument right → Cause card (Frame wins selected) input seen sector → ⊥
+  status_erases : (wins selected : Bool) (sector argument : ℕ) (right : Bool) → framing_of input ≡ Ok (as_fields 13 argument right) → Cause card (Frame wins selected) input seen sector → ⊥
   status_erases wins selected sector argument right r (written at w e) = let c = w.called in clash cc
-  status_erases wins selected sector argument right r (by_tag t) = let z : ◌≡◌ {A = ℕ} 13 38 = cc (sym r ∙ t.command.framing) in omega arith
+  status_erases wins selected sector argument right r (by_tag t) = let z = index_told (sym r ∙ t.command.framing) in omega arith
   status_erases wins selected sector argument right r (forced f) = let c = f.called in clash cc
 
-  refused_stores : (at : ℕ) (refusal : Refusal) → (block_judged card input seen).stepped.reply.outcome ≡ Refused refusal
+  refused_stores : (at : ℕ) (refusal : Refusal) → (block_judged card input seen).stepped.reply.outcome ≡ Err refusal
       → GrantedWrite card BlockIn input seen at → ⊥
   refused_stores at refusal r w = let g = w.granted 0 in clash cc
 
@@ -87,28 +87,28 @@ module _ (card : Card) (input : List ℕ) (seen : Seen) where
 
   -- the index of a frame that sets or clears a group
   neither : (wins selected : Bool) (index argument other group : ℕ) (right : Bool) → (index ≡ 28 → ⊥) → (index ≡ 29 → ⊥)
-      → framing_of input ≡ Framed index argument right
+      → framing_of input ≡ Ok (as_fields index argument right)
       → SetBy card (Frame wins selected) input seen wins selected 28 true other group
       ⊎ SetBy card (Frame wins selected) input seen wins selected 29 false other group → ⊥
-  neither wins selected index argument other group right a b r (inl c) = let e = sym r ∙ c.0.framing in a (cc)
-  neither wins selected index argument other group right a b r (inr c) = let e = sym r ∙ c.0.framing in b (cc)
+  neither wins selected index argument other group right a b r (inl c) = a (index_told (sym r ∙ c.0.framing))
+  neither wins selected index argument other group right a b r (inr c) = b (index_told (sym r ∙ c.0.framing))
 
-  status_protects : (wins selected : Bool) (group argument : ℕ) (right : Bool) → framing_of input ≡ Framed 13 argument right → MapCause card (Frame wins selected) input seen group → ⊥
+  status_protects : (wins selected : Bool) (group argument : ℕ) (right : Bool) → framing_of input ≡ Ok (as_fields 13 argument right) → MapCause card (Frame wins selected) input seen group → ⊥
   status_protects wins selected group argument right r (set s) =
       neither s.wins s.selected 13 argument s.argument group right (λ e. omega arith) (λ e. omega arith) r s.taken
   status_protects wins selected group argument right r (forced f) = let c = f.called in clash cc
 
-  set_or_not : (wins selected : Bool) (other group argument : ℕ) (right : Bool) → framing_of input ≡ Framed 28 argument right
+  set_or_not : (wins selected : Bool) (other group argument : ℕ) (right : Bool) → framing_of input ≡ Ok (as_fields 28 argument right)
       → (frame_judged card wins selected input seen).change ≡ Protect group false
       → SetBy card (Frame wins selected) input seen wins selected 28 true other group
       ⊎ SetBy card (Frame wins selected) input seen wins selected 29 false other group → ⊥
   set_or_not wins selected other group argument right r p (inl c) = let e = sym p ∙ c.1 in clash cc
-  set_or_not wins selected other group argument right r p (inr c) = let e = sym r ∙ c.0.framing in let z : ◌≡◌ {A = ℕ} 28 29 = cc in omega arith
+  set_or_not wins selected other group argument right r p (inr c) = let z = index_told (sym r ∙ c.0.framing) in omega arith
 
   told : (v w a b : Bool) → Frame v a ≡ Frame w b → (v ≡ w) × (a ≡ b)
   told v w a b e = (cc, cc)
 
-  set_clears : (wins selected : Bool) (group argument : ℕ) (right : Bool) → framing_of input ≡ Framed 28 argument right
+  set_clears : (wins selected : Bool) (group argument : ℕ) (right : Bool) → framing_of input ≡ Ok (as_fields 28 argument right)
       → (frame_judged card wins selected input seen).change ≡ Protect group false → MapCause card (Frame wins selected) input seen group → ⊥
   set_clears wins selected group argument right r p (set s) =
       let same = told wins s.wins selected s.selected s.called in
@@ -136,12 +136,11 @@ module _ (card : Card) (input : List ℕ) (seen : Seen) where
   high_protects wins group here (forced f) = let c = f.called in clash cc
 
   -- a CRC7 that is wrong, at a card that does not let it pass
-  damaged_erases : (wins selected : Bool) (sector argument : ℕ) → framing_of input ≡ Framed 38 argument false → crc_passes card.mode 38 false ≡ false
+  damaged_erases : (wins selected : Bool) (sector argument : ℕ) → framing_of input ≡ Ok (as_fields 38 argument false) → crc_passes card.mode 38 false ≡ false
       → Cause card (Frame wins selected) input seen sector → ⊥
   damaged_erases wins selected sector argument r c (written at w e) = let d = w.called in clash cc
   damaged_erases wins selected sector argument r c (by_tag t) =
-      let e = sym r ∙ t.command.framing in
-      let wrong : t.command.right ≡ false = cc in
+      let wrong = sym (ap (λ (f : Fields). f.crc_right) (fields_told (sym r ∙ t.command.framing))) in
       opposite (crc_passes card.mode 38 false) (sym (ap (crc_passes card.mode 38) wrong) ∙ t.command.crc) c
   damaged_erases wins selected sector argument r c (forced f) = let d = f.called in clash cc
 

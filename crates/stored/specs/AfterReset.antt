@@ -1,11 +1,10 @@
 -- Document 02, request 2: "Power-on and CMD0 now leave 2,048 where 01 says 512. Every caller that wrote straight after a reset must now send CMD16
 -- first: CMD24 and 25 answer bit 29 until then."
 -- Assumes nothing.
-use Rattle.std.specs.Prelude.{◌≡◌, Bool, true, false, List, [], ◌∷◌, ℕ}
+use Rattle.std.specs.Prelude.{◌≡◌, Bool, true, false, List, [], ◌∷◌, ℕ, Ok}
 use Rattle.base.specs.Sizes.{sector_size}
 use Rattle.card.specs.declared.Call.TheVariants.{Frame, PowerOn}
 use Rattle.card_record.specs.declared.Card.{Card}
-use Rattle.card_record.specs.declared.Making.TheVariants.{Done}
 use Rattle.command.specs.Command.{met_by, command_of}
 use Rattle.demands.specs.Faulted.{Faulted}
 use Rattle.demands.specs.InSpi.{FaultedInSpi}
@@ -22,7 +21,7 @@ use Rattle.stored.specs.Changes.{AwaitsWrite}
 -- a card straight after a reset: one that was made, one that was powered on, and one that took CMD0, "legal .. in every state but Inactive"; in SPI
 -- "a frame with the line high is ignored"
 pub data AfterReset : World → Type 0 where
-  made : (cid csd : List ℕ) (ocr : ℕ) (password : List ℕ) (lent : Lent) → (made_lent cid csd ocr password lent).making ≡ Done
+  made : (cid csd : List ℕ) (ocr : ℕ) (password : List ℕ) (lent : Lent) → (made_lent cid csd ocr password lent).making ≡ Ok tt
       → AfterReset (begun cid csd ocr password lent)
   powered : (world : World) (bytes : List ℕ) → Made world.card → AfterReset (next world (given PowerOn bytes))
   idled : (world : World) (wins selected : Bool) (frame : List ℕ) (argument : ℕ) → Made world.card → Reads world.card frame world.lent 0 argument

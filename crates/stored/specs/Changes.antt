@@ -1,7 +1,7 @@
 -- Document 01, "Reading, writing, erasing, locking": why a byte of the lent memory, or an entry of the lent map, may change in one step. Document
 -- 02, request 1: "Reads, writes, erase, protection and lock are shared and proved once for both modes".
 -- Assumes nothing.
-use Rattle.std.specs.Prelude.{◌≡◌, Bool, true, false, List, ◌⊎◌, ℕ, ◌/◌, get_or}
+use Rattle.std.specs.Prelude.{◌≡◌, Bool, true, false, List, ◌⊎◌, ℕ, ◌/◌, get_or, Ok, None}
 use Rattle.base.specs.Sizes.{sector_size, protection_group_size}
 use Rattle.card_blocks.specs.BlockIn.{block_judged}
 use Rattle.card_blocks.specs.Framing.{unstarted}
@@ -9,7 +9,6 @@ use Rattle.card.specs.Frame.{frame_judged}
 use Rattle.card.specs.Step.{step_of, lent_after}
 use Rattle.card.specs.declared.Call.{Call}
 use Rattle.card.specs.declared.Call.TheVariants.{Frame, BlockIn}
-use Rattle.card_blocks.specs.declared.Outcome.TheVariants.{Done}
 use Rattle.card_blocks.specs.declared.Storing.TheVariants.{All}
 use Rattle.command.specs.declared.Change.TheVariants.{Protect, Erase}
 use Rattle.card_record.specs.Record.{csd_protects}
@@ -47,7 +46,7 @@ module _ (card : Card) (call : Call) (input : List ℕ) (seen : Seen) where
   pub record GrantedWrite (at : ℕ) : Type 0 where
     pub called : call ≡ BlockIn
     pub awaited : AwaitsWrite card at
-    pub granted : (room : ℕ) → (step_of card call input seen room).reply.outcome ≡ Done
+    pub granted : (room : ℕ) → (step_of card call input seen room).reply.outcome ≡ Ok None
 
   -- "CMD38 .. fills every tagged sector outside protection": CMD38, taken without an error, and the sector is one that it fills
   pub record ErasedByTag (sector : ℕ) : Type 0 where

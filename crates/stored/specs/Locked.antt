@@ -1,11 +1,10 @@
 -- Document 01, "How a card takes a frame" and "Reading, writing, erasing, locking", and document 02, request 4, "Check 5 reads from now on: class 0,
 -- CMD16 and CMD42": what a locked card lets happen, in MMC mode and in SPI.
 -- Assumes nothing.
-use Rattle.std.specs.Prelude.{◌≡◌, Bool, true, List, ℕ, ◌≤◌, length, get_or}
+use Rattle.std.specs.Prelude.{◌≡◌, Bool, true, List, ℕ, ◌≤◌, length, get_or, Ok, None}
 use Rattle.card.specs.Step.{step_of, lent_after}
 use Rattle.card.specs.declared.Call.{Call}
 use Rattle.card.specs.declared.Call.TheVariants.{Frame, BlockIn, PowerOn}
-use Rattle.card_blocks.specs.declared.Outcome.TheVariants.{Done}
 use Rattle.lock.specs.Passwords.{stored}
 use Rattle.lock.specs.Requests.{password_in}
 use Rattle.card_record.specs.declared.Card.{Card}
@@ -26,7 +25,7 @@ pub record UnlockGranted (card : Card) (call : Call) (input : List ℕ) (seen : 
   pub unlock : get_or (payload_at card input) 0 0 ≡ 0
   pub some : 1 ≤ length (stored card.lock)
   pub password : password_in (payload_at card input) ≡ stored card.lock
-  pub granted : (room : ℕ) → (step_of card call input seen room).reply.outcome ≡ Done
+  pub granted : (room : ℕ) → (step_of card call input seen room).reply.outcome ≡ Ok None
 
 -- why a locked card may be unlocked afterwards: "Power-on: .. locked exactly if a password is stored"; "A locked card grants only 0 and 8"
 pub data Unlocking (card : Card) (call : Call) (input : List ℕ) (seen : Seen) : Type 0 where

@@ -1,11 +1,10 @@
 -- Document 02, request 4: "A handheld sets the block length to the length of its lock request before CMD42, as 001 says hosts do": what it sends
 -- a locked card, what the card answers, and how it stands then, in MMC mode and in SPI. `spi` says that the card is in SPI.
 -- Assumes nothing.
-use Rattle.std.specs.Prelude.{◌≡◌, Bool, true, false, List, [], ◌∷◌, ◌++◌, ℕ, ◌≤◌, length}
+use Rattle.std.specs.Prelude.{◌≡◌, Bool, true, false, List, [], ◌∷◌, ◌++◌, ℕ, ◌≤◌, length, Ok, None}
 use Rattle.card.specs.Step.{step_of}
 use Rattle.card.specs.declared.Call.TheVariants.{WorkDone}
 use Rattle.card_blocks.specs.Framing.{response_to, with_start}
-use Rattle.card_blocks.specs.declared.Outcome.TheVariants.{Done}
 use Rattle.card_record.specs.declared.Sent.{Sent}
 use Rattle.card_record.specs.declared.Sent.TheVariants.{Nothing, Status, SpiR1}
 use Rattle.lock.specs.Passwords.{stored, flagged}
@@ -21,7 +20,6 @@ use Rattle.states.specs.declared.State.TheVariants.{Tran, Rcv, Prg}
 use Rattle.status.specs.Status.{no_errors, word_of}
 use Rattle.status.specs.declared.Errors.{Errors}
 use Rattle.store.specs.Lent.{seen, lending_of}
-use Rattle.store.specs.declared.Lending.TheVariants.{Right}
 use Rattle.tags.specs.Tagging.{no_tags}
 use Rattle.wire.specs.Blocks.{longest_block, block_of}
 use Rattle.stored.specs.ReadBack.{block_in}
@@ -32,7 +30,7 @@ pub record LockedInTran (world : World) : Type 0 where
   pub made : Made world.card
   pub locked : world.card.lock.locked ≡ true
   pub tran : world.card.link.state ≡ Tran
-  pub right : lending_of (seen world.lent) world.card.registers.groups ≡ Right
+  pub right : lending_of (seen world.lent) world.card.registers.groups ≡ Ok tt
 
 -- an unlock with the stored password: "Byte 0: 0 unlock"; "Byte 1 is the password length .., bytes follow, surplus ignored"
 abbrev pub unlock_request : Lock → List ℕ → List ℕ
@@ -51,7 +49,7 @@ request_in spi request = block_in (with_start spi (block_of request))
 -- ---- what comes of it
 -- a call that is carried out: what the card sends, and the world that it leaves
 pub record Carries (world : World) (input : Input) (sent : Sent) (after : World) : Type 0 where
-  pub reply : (step_of world.card input.call input.bytes (seen world.lent) (length input.output)).reply ≡ record { outcome = Done; sent = sent }
+  pub reply : (step_of world.card input.call input.bytes (seen world.lent) (length input.output)).reply ≡ record { outcome = Ok None; sent = sent }
   pub left : next world input ≡ after
 
 -- R1 of a command that comes to a card in tran, from the error bits that it reports: it has "the state on reception", and in SPI "idle after the
@@ -105,6 +103,6 @@ module _ (spi : Bool) (world : World) (request : List ℕ) where
   pub record Opens (set ask : Input) : Type 0 where
     pub sized : Carries world set (r1_in spi 16 world.card.link.errors true) sized_world
     pub asked : Carries sized_world ask (r1_in spi 42 behind_set true) asked_world
-    pub opened : Carries asked_world (request_in spi request) (response_to spi Done) opened_world
+    pub opened : Carries asked_world (request_in spi request) (response_to spi (Ok None)) opened_world
     pub ready : Carries opened_world (given WorkDone []) Nothing ready_world
     pub run : run_of world (set ∷ ask ∷ request_in spi request ∷ given WorkDone [] ∷ []) ≡ ready_world

@@ -1,17 +1,15 @@
 -- Document 01, "Reading, writing, erasing, locking": a block that is stored, and read again; and document 02, request 1: the same in SPI. `spi`
 -- says that the card is in SPI.
 -- Assumes nothing.
-use Rattle.std.specs.Prelude.{◌≡◌, Bool, true, false, List, [], ℕ, ◌+◌, ◌/◌, ◌%◌, ◌^◌, ◌≤◌, ◌<◌, take}
+use Rattle.std.specs.Prelude.{◌≡◌, Bool, true, false, List, [], ℕ, ◌+◌, ◌/◌, ◌%◌, ◌^◌, ◌≤◌, ◌<◌, take, Ok, Some}
 use Rattle.base.specs.Sizes.{sector_size}
 use Rattle.card.specs.declared.Call.TheVariants.{Frame, BlockIn, BlockOut, WorkDone}
 use Rattle.card_blocks.specs.Framing.{beside, unstarted, with_start}
-use Rattle.card_blocks.specs.declared.Outcome.TheVariants.{Wrote}
 use Rattle.card_record.specs.Record.{size_of, csd_protects}
 use Rattle.card_record.specs.declared.Card.{Card}
 use Rattle.made.specs.Run.{World, Input, given, next, outcome_of, output_after}
 use Rattle.store.specs.Lent.{seen, lending_of}
 use Rattle.store.specs.Map.{protected_in}
-use Rattle.store.specs.declared.Lending.TheVariants.{Right}
 use Rattle.wire.specs.Blocks.{block_of}
 use Rattle.wire.specs.Frames.{command_frame}
 
@@ -48,7 +46,7 @@ pub record Awaiting (card : Card) (at : ℕ) : Type 0 where
 
 -- a block at an address would be taken: nothing is lent wrong (12), the block lies in memory (18), and not in protected memory (19)
 pub record Writable (w : World) (at : ℕ) : Type 0 where
-  pub right : lending_of (seen w.lent) w.card.registers.groups ≡ Right
+  pub right : lending_of (seen w.lent) w.card.registers.groups ≡ Ok tt
   pub in_range : at + sector_size ≤ size_of w.card.registers.groups
   pub free : protected_in w.lent.map (csd_protects w.card.registers.csd) (at / sector_size) ≡ false
 
@@ -59,5 +57,5 @@ framed_sector spi = sector_size + beside spi
 -- then 514 bytes go out, and stand at the front of the lent output: the block's 512 bytes and their CRC16. In SPI the block that came in and the
 -- one that goes out have the start byte before them, and 515 bytes go out
 pub record ReadsBack (spi : Bool) (block : List ℕ) (w : World) (output : List ℕ) : Type 0 where
-  pub wrote : outcome_of w (block_out output) ≡ Wrote (framed_sector spi)
+  pub wrote : outcome_of w (block_out output) ≡ Ok (Some (framed_sector spi))
   pub front : take (framed_sector spi) (output_after w (block_out output)) ≡ with_start spi (block_of (take sector_size (unstarted spi block)))

@@ -14,7 +14,6 @@ use Rattle.base.proofs.Cases.{clash}
 use Rattle.base.specs.Choice.{unless}
 use Rattle.status.specs.ErrorBits.{error_bit}
 use Rattle.status.specs.declared.ErrorBit.{ErrorBit}
-use Rattle.status.specs.declared.Fault.TheVariants.{Bit}
 use Rattle.tags.specs.Made.{MadeTags}
 use Rattle.tags.specs.Tagging.{tags_of, no_tags, any_of, place_in, tag_failed, made, has_start, first_of, one_group, start_tagged, end_at, end_tagged}
 use Rattle.tags.specs.Tags.{width}
@@ -24,6 +23,7 @@ use Rattle.tags.specs.declared.Range.{Range}
 use Rattle.tags.specs.declared.Range.TheVariants.{Nothing, Start, Full}
 use Rattle.tags.specs.declared.Tagging.{Tagging}
 use Rattle.tags.specs.declared.Tags.{Tags}
+use Rattle.std.specs.Prelude.{Some}
 
 -- what holds of the refusal, and of the rest where the test holds, holds after the test
 either : (P : Tagging → Type 0) (t : Bool) (refusal rest : Tagging) → P refusal → (t ≡ true → P rest) → P (unless t refusal rest)
@@ -59,7 +59,7 @@ module _ (P : Tagging → Type 0) (bad : (bit : ErrorBit) → P (tag_failed bit)
 
 -- ---- errors drop tags
 abbrev pub Drops : Tagging → Type 0
-Drops t = (bit : ErrorBit) → t.error ≡ Bit bit → t.tags ≡ no_tags
+Drops t = (bit : ErrorBit) → t.error ≡ Some bit → t.tags ≡ no_tags
 
 failed_drops : (bit : ErrorBit) → Drops (tag_failed bit)
 failed_drops bit other e = refl

@@ -1,10 +1,9 @@
 -- Document 01, "Reading, writing, erasing, locking": "CMD32, 35 tag a start; 33, 36 an end."
 -- Assumes nothing.
-use Rattle.std.specs.Prelude.{Bool, true, false, ℕ, ◌/◌, eqb, leb, ltb}
+use Rattle.std.specs.Prelude.{Bool, true, false, ℕ, ◌/◌, eqb, leb, ltb, Some, None}
 use Rattle.base.specs.Choice.{unless}
 use Rattle.status.specs.ErrorBits.{error_bit}
 use Rattle.status.specs.declared.ErrorBit.{ErrorBit}
-use Rattle.status.specs.declared.Fault.TheVariants.{None, Bit}
 use Rattle.tags.specs.Tags.{width, counted}
 use Rattle.tags.specs.declared.Kind.{Kind}
 use Rattle.tags.specs.declared.Kind.TheVariants.{Sectors, Groups}
@@ -45,7 +44,7 @@ place_in kind address = address / width kind
 
 -- "An error in 32-38 drops tags"
 abbrev pub tag_failed : ErrorBit → Tagging
-tag_failed bit = record { tags = no_tags; error = Bit bit }
+tag_failed bit = record { tags = no_tags; error = Some bit }
 
 -- a tag command without an error leaves the tags that it makes, and none of the old ones
 abbrev pub made : Range → Tagging

@@ -2,18 +2,18 @@
 // sectors or of erase groups, by their numbers; what CMD32, 33, 35 and 36 do with them, and what
 // CMD38 takes. No call has a `requires`: tags that no command made are answered too.
 //
-// Offers: `Kind`, `Range`, `Tags`, `tagged`; `no_tags`, `any`, `complete`; `Tagging`, `tag_start`,
-// `tag_end`.
+// Offers: `Kind`, `Range`, `Tags`, `tagged`; `no_tags`, `any`, `complete`; `Tagging`, `failed`,
+// `tag_start`, `tag_end`.
 #![tactic(auto)]
 
 ghost use Rattle.std.specs.Prelude.{◌≡◌};
-ghost use Rattle.tags.specs.Tagging.{tags_of, no_tags, any_of, is_complete, place_in, tag_failed, same_kind, has_start, first_of, one_group, start_tagged, end_tagged};
+ghost use Rattle.tags.specs.Tagging.{tags_of, no_tags, any_of, is_complete, place_in, tag_failed, has_start, first_of, one_group, start_tagged, end_tagged};
 ghost use Rattle.tags.specs.Tags.{within, tagged_of};
 
 use base::{ERASE_GROUP, SECTOR};
-use status::{ErrorBit, Fault};
+use status::ErrorBit;
 
-#[derive(Clone, Copy)]
+#[derive(Clone, Copy, PartialEq, Eq)]
 pub enum Kind {
     Sectors,
     Groups,
@@ -32,20 +32,17 @@ pub struct Tags {
     pub range: Range,
 }
 
-// What a tag command leaves: the tags, and the error that it answers.
+// What a tag command leaves: the tags, and the error bit that it sets, if any.
 #[derive(Clone, Copy)]
 pub struct Tagging {
     pub tags: Tags,
-    pub error: Fault,
+    pub error: Option<ErrorBit>,
 }
 
 fn within(n: u32, first: u32, last: u32) -> bool
     ensures { result ≡ within n first last }
 {
-    if first <= n {
-        return n <= last;
-    }
-    false
+    first <= n && n <= last
 }
 
 // Whether an erase would take a sector, protection apart.
@@ -54,8 +51,7 @@ pub fn tagged(tags: Tags, sector: u32) -> bool
 {
     let range = tags.range;
     match range {
-        Range::Nothing => false,
-        Range::Start(_, _) => false,
+        Range::Nothing | Range::Start(_, _) => false,
         Range::Full(kind, first, last) => match kind {
             Kind::Sectors => within(sector, first, last),
             Kind::Groups => within(sector / 8, first, last),
@@ -81,24 +77,14 @@ pub fn no_tags() -> Tags
 pub fn any(tags: Tags) -> bool
     ensures answer { result ≡ any_of tags }
 {
-    let range = tags.range;
-    match range {
-        Range::Nothing => false,
-        Range::Start(_, _) => true,
-        Range::Full(_, _, _) => true,
-    }
+    !matches!(tags.range, Range::Nothing)
 }
 
 // Whether a start and an end are tagged, as CMD38 needs.
 pub fn complete(tags: Tags) -> bool
     ensures answer { result ≡ is_complete tags }
 {
-    let range = tags.range;
-    match range {
-        Range::Nothing => false,
-        Range::Start(_, _) => false,
-        Range::Full(_, _, _) => true,
-    }
+    matches!(tags.range, Range::Full(_, _, _))
 }
 
 // The number of the sector or erase group that an address lies in.
@@ -112,52 +98,39 @@ fn place_in(kind: Kind, address: u32) -> u32
 }
 
 // An error in a tag command drops the tags.
-fn fail(bit: ErrorBit) -> Tagging
-    ensures { result ≡ tag_failed bit }
+pub fn failed(bit: ErrorBit) -> Tagging
+    ensures answer { result ≡ tag_failed bit }
 {
     Tagging {
         tags: no_tags(),
-        error: Fault::Bit(bit),
+        error: Some(bit),
     }
 }
 
 // CMD32, 35.
+#[tactic(auto, unfolding(crate::specs::Tagging::start_tagged))]
 pub fn tag_start(kind: Kind, address: u32, size: u32) -> Tagging
     ensures answer { result ≡ start_tagged kind address size }
 {
     if size <= address {
-        return fail(ErrorBit::OutOfRange);
+        return failed(ErrorBit::OutOfRange);
     }
     let first = place_in(kind, address);
     Tagging {
         tags: new_tags(Range::Start(kind, first)),
-        error: Fault::None,
+        error: None,
     }
 }
 
-fn same_kind(a: Kind, b: Kind) -> bool
-    ensures { result ≡ same_kind a b }
-{
-    match a {
-        Kind::Sectors => match b {
-            Kind::Sectors => true,
-            Kind::Groups => false,
-        },
-        Kind::Groups => match b {
-            Kind::Sectors => false,
-            Kind::Groups => true,
-        },
-    }
-}
-
+// Two questions in place of one Option: the edit start_of_the_other_kind and `first_of` name them.
 fn has_start(tags: Tags, kind: Kind) -> bool
     ensures { result ≡ has_start kind tags.range }
 {
     let range = tags.range;
     match range {
         Range::Nothing => false,
-        Range::Start(of, _) => same_kind(kind, of),
-        Range::Full(of, _, _) => same_kind(kind, of),
+        Range::Start(of, _) => kind == of,
+        Range::Full(of, _, _) => kind == of,
     }
 }
 
@@ -183,25 +156,26 @@ fn in_one_group(kind: Kind, first: u32, last: u32) -> bool
 }
 
 // CMD33, 36.
+#[tactic(auto, unfolding(crate::specs::Tagging::end_tagged))]
 pub fn tag_end(tags: Tags, kind: Kind, address: u32, size: u32) -> Tagging
     ensures answer { result ≡ end_tagged tags kind address size }
 {
     if size <= address {
-        return fail(ErrorBit::OutOfRange);
+        return failed(ErrorBit::OutOfRange);
     }
     if !has_start(tags, kind) {
-        return fail(ErrorBit::EraseSeqError);
+        return failed(ErrorBit::EraseSeqError);
     }
     let first = first_of(tags);
     let last = place_in(kind, address);
     if last < first {
-        return fail(ErrorBit::EraseParam);
+        return failed(ErrorBit::EraseParam);
     }
     if !in_one_group(kind, first, last) {
-        return fail(ErrorBit::EraseParam);
+        return failed(ErrorBit::EraseParam);
     }
     Tagging {
         tags: new_tags(Range::Full(kind, first, last)),
-        error: Fault::None,
+        error: None,
     }
 }

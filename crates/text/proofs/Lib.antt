@@ -1,5 +1,6 @@
 pub mod Digits
 pub mod Lengths
+pub mod Pages
 pub mod Pairs
 pub mod Shown
 pub mod Writing

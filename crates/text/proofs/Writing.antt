@@ -1,5 +1,4 @@
 -- Laws of texts written into an output.
---   part_take      the bytes from a place on, as many as there are
 --   fits_front     what has room goes to the front whole
 --   put_both       one text after the other is the text of both, whether there was room for it or not
 --   put_none       no text
@@ -20,33 +19,13 @@ use mathlib.Core.List.{List, [], ◌++◌, append_assoc, append-nil}
 use Prim.Native.Nat.{ℕ, ◌+◌, ◌-◌, ◌≤◌, ◌<◌, min}
 use native.Mathlib.Omega.{arith}
 use lib.ListN.{length, take, drop, length-append, length-drop, drop_of_length-le, take-append-drop}
-use lib.Seq.{take_all, take-nil, take_at, drop_at, drop-drop, length-take-le, take-append-le, take-append-add, paste, paste-zero}
+use lib.Seq.{take_all, take_at, drop_at, drop-drop, length-take-le, take-append-le, take-append-add, paste, paste-zero}
 use borrow.Author.Tests.{leb-true, leb-false}
 use lib.Dec.{leb}
 use Rattle.base.proofs.Cases.{cases}
 use Rattle.base.proofs.Copying.{copied_front, copied_whole, copied_length}
 use Rattle.base.specs.Output.{copied}
 use Rattle.text.specs.Writing.{Put, Wrote, Line}
-
--- a is the place or the end, k how many
-pub part_take : (s : List ℕ) (from n a k : ℕ) → a ≡ min from (length s) → k ≡ min n (length s - a) → take (a + k - a) (drop a s) ≡ take n (drop from s)
-part_take s from n a k ea ek =
-    let d : a + k - a ≡ k = omega arith in
-    rw d
-    (cases (leb from (length s))
-    (λ (t : leb from (length s) ≡ true).
-    let h : from ≤ length s = leb-true from (length s) t in
-    let e : a ≡ from = omega arith in
-    let l = length-drop from s in
-    ap (λ (m : ℕ). take k (drop m s)) e
-    ∙ cases (leb n k)
-    (λ (u : leb n k ≡ true). let v = leb-true n k u in let q : k ≡ n = omega arith in ap (λ (m : ℕ). take m (drop from s)) q)
-    (λ (u : leb n k ≡ false).
-    let v = leb-false n k u in take_all k (drop from s) (omega arith) ∙ sym (take_all n (drop from s) (omega arith))))
-    (λ (t : leb from (length s) ≡ false).
-    let h : length s < from = leb-false from (length s) t in
-    ap (take k) (drop_of_length-le s {i = a} (omega arith)) ∙ take-nil k
-    ∙ sym (ap (take n) (drop_of_length-le s {i = from} (omega arith)) ∙ take-nil n)))
 
 pub fits_front : (s o : List ℕ) → length s ≤ length o → copied s o 0 ≡ s ++ drop (length s) o
 fits_front s o h = copied_front s o ∙ ap (λ (x : List ℕ). x ++ drop (length s) o) (take_all (length o) s h)

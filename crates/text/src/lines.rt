@@ -1,116 +1,39 @@
-// Pieces of lines, and whole lines, written into a lent output as far as there is room. Two pieces
-// written one behind the other are the one text of both, cut where the output ends, so whoever wants
-// whole lines sees to the room.
+// Whole lines, each written at the front of a lent output as far as there is room; the answer is how much.
 //
-// Offers: `put`, `hex`, `number`, `hexed`, `ending`, `head`; `say`, `plain`, `named`, `refused_by`.
-ghost use Rattle.std.specs.Prelude.{◌≡◌, ◌+◌, min};
-ghost use Rattle.text.specs.Lines.{number_text, hex_text, end_text, head_text, word_line, plain_line, named_line, refusal_line};
-ghost use Rattle.text.specs.Text.{hex_of, decimal_of};
+// Offers: `say`, `plain`, `named`, `refused_by`.
+ghost use Rattle.text.specs.Lines.{word_line, plain_line, named_line, refusal_line};
 ghost use Rattle.text.specs.Writing.{Put};
 
-use crate::{digit, spell};
-use base::{Refusal, copy, least};
-
-// The place so many bytes behind another, within a length.
-fn behind(at: usize, n: usize, length: usize) -> usize
-    ensures { result ≡ min (at + n) length }
-{
-    if length <= at {
-        return length;
-    }
-    if length - at <= n {
-        return length;
-    }
-    at + n
-}
-
-// Each of these writes a text from a place on and answers the place behind it.
-
-pub fn put(bytes: &[u8], out: &mut [u8], at: usize) -> usize
-    ensures { Put out.old out.new at result bytes.now }
-{
-    copy(bytes, out, at);
-    behind(at, bytes.len(), out.len())
-}
-
-fn decimal(n: u64, out: &mut [u8], at: usize) -> usize
-    ensures { Put out.old out.new at result (decimal_of n) }
-{
-    let spelt = spell(n);
-    let from = spelt.from;
-    let text = spelt.text;
-    put(&text[from..20], out, at)
-}
-
-pub fn hex(bytes: &[u8], out: &mut [u8], at: usize) -> usize
-    ensures { Put out.old out.new at result (hex_of bytes.now) }
-{
-    let mut place = least(at, out.len());
-    let mut i: usize = 0;
-    while i < bytes.len() {
-        let b = bytes[i];
-        let pair = [digit(b / 16), digit(b % 16)];
-        place = put(&pair, out, place);
-        i += 1;
-    }
-    place
-}
-
-pub fn number(n: u64, out: &mut [u8], at: usize) -> usize
-    ensures { Put out.old out.new at result (number_text n) }
-{
-    let a = put(b" ", out, at);
-    decimal(n, out, a)
-}
-
-pub fn hexed(bytes: &[u8], out: &mut [u8], at: usize) -> usize
-    ensures { Put out.old out.new at result (hex_text bytes.now) }
-{
-    let a = put(b" ", out, at);
-    hex(bytes, out, a)
-}
-
-// The end of a line: no space goes before bytes that are none.
-pub fn ending(bytes: &[u8], out: &mut [u8], at: usize) -> usize
-    ensures { Put out.old out.new at result (end_text bytes.now) }
-{
-    if bytes.len() == 0 {
-        return put(b"\n", out, at);
-    }
-    let a = hexed(bytes, out, at);
-    put(b"\n", out, a)
-}
-
-// Each of these writes at the front of the output and answers how much.
-
-pub fn head(count: u64, word: &[u8], out: &mut [u8]) -> usize
-    ensures { Put out.old out.new 0 result (head_text count word.now) }
-{
-    let a = decimal(count, out, 0);
-    let b = put(b" ", out, a);
-    put(word, out, b)
-}
+use crate::page::Page;
+use base::Refusal;
 
 pub fn say(count: u64, word: &[u8], bytes: &[u8], out: &mut [u8]) -> usize
     ensures { Put out.old out.new 0 result (word_line count word.now bytes.now) }
 {
-    let a = head(count, word, out);
-    ending(bytes, out, a)
+    let mut page = Page { out, at: 0 };
+    page.head(count, word);
+    page.ending(bytes);
+    page.at
 }
 
+#[tactic(auto, using(crate::proofs::Writing::put_both), unfolding(crate::specs::Lines::plain_line))]
 pub fn plain(word: &[u8], out: &mut [u8]) -> usize
     ensures { Put out.old out.new 0 result (plain_line word.now) }
 {
-    let a = put(word, out, 0);
-    put(b"\n", out, a)
+    let mut page = Page { out, at: 0 };
+    page.put(word);
+    page.put(b"\n");
+    page.at
 }
 
 pub fn named(word: &[u8], n: u64, out: &mut [u8]) -> usize
     ensures { Put out.old out.new 0 result (named_line word.now n) }
 {
-    let a = put(word, out, 0);
-    let b = number(n, out, a);
-    put(b"\n", out, b)
+    let mut page = Page { out, at: 0 };
+    page.put(word);
+    page.number(n);
+    page.put(b"\n");
+    page.at
 }
 
 pub fn refused_by(refusal: Refusal, out: &mut [u8]) -> usize

@@ -7,47 +7,31 @@ mod parse;
 mod request;
 mod say;
 
-use parse::find;
-use program_io::{all, show};
+use program_io::{Unwritten, all, show};
 use request::answer;
 use say::say;
-use text::parts::part;
 
 fn main(rt: HostRuntime) {
     let mut text = [0u8; 65536];
-    let n = all(&rt, &mut rt.stdin(), b"standard input", &mut text);
-    run(&rt, part(&text, 0, n));
+    if let Ok(n) = all(&rt, &mut rt.stdin(), b"standard input", &mut text) {
+        let _ = run(&rt, &text[..n]);
+    }
 }
 
 // A script, line by line.
-fn run(rt: &(impl Print + Eprint), text: &[u8]) {
-    let mut at: usize = 0;
-    while at < text.len() {
-        let end = find(text, at, b'\n');
-        if !line(rt, &text[at..end]) {
-            return;
-        }
-        if end == text.len() {
-            return;
-        }
-        at = end + 1;
+fn run(rt: &(impl Print + Eprint), text: &[u8]) -> Result<(), Unwritten> {
+    for l in text.split_inclusive(|b| *b == b'\n') {
+        line(rt, l.strip_suffix(b"\n").unwrap_or(l))?;
     }
+    Ok(())
 }
 
-// One line: whether it could be written.
-fn line(rt: &(impl Print + Eprint), l: &[u8]) -> bool {
+fn line(rt: &(impl Print + Eprint), l: &[u8]) -> Result<(), Unwritten> {
     say(rt, l);
-    if is_request(l) {
+    if !matches!(l, [] | [b'#', ..]) {
         say(rt, b" -> ");
         answer(rt, l);
     }
-    let handed = show(rt, b"\n", 1);
-    handed.written
-}
-
-fn is_request(l: &[u8]) -> bool {
-    if l.len() == 0 {
-        return false;
-    }
-    l[0] != b'#'
+    show(rt, b"\n", 1)?;
+    Ok(())
 }

@@ -9,180 +9,101 @@
 // bytes of A5, at most 4,096, are lent as the output, and all of them are shown.
 //
 // Offers: `answer`.
-ghost use Rattle.std.specs.Prelude.{◌≡◌, length};
-
-use crate::parse::{Number, Number32, bytes_of, number_of, same, spaces, word, word_of};
-use crate::say::{say, say_checked, say_frame, say_framing, say_half, say_hex, say_written};
+use crate::parse::{Bytes, bytes_of, number_of, repeat, word_of};
+use crate::say::{say, say_checked, say_frame, say_framing, say_hex, say_written};
 use wire::{R1, R2, R3};
 
-// What came of a request. Each function below answers whether the request follows the rules, and
-// prints nothing of one that does not.
+// What came of a request. Each function below answers `None` for a request that does not follow the
+// rules, and prints nothing of it.
 pub fn answer(rt: &impl Print, line: &[u8]) {
-    if !asked(rt, line) {
+    if asked(rt, line).is_none() {
         say(rt, b"bad request");
     }
 }
 
-fn asked(rt: &impl Print, line: &[u8]) -> bool {
-    if spaces(line) == 1 {
-        return asked_of(rt, word(line, 0), word(line, 1));
-    }
-    asked_into(rt, line)
-}
-
-// VERB HEX.
-fn asked_of(rt: &impl Print, verb: &[u8], hex: &[u8]) -> bool {
-    let mut space = [0u8; 4096];
-    let Number::Is(n) = bytes_of(hex, &mut space) else {
-        return false;
+// A verb, one operand or two, and `into N` where the call writes.
+fn asked(rt: &impl Print, line: &[u8]) -> Option<()> {
+    let mut words = line.split(|b| *b == b' ');
+    let verb = words.next()?;
+    let operand = words.next()?;
+    let Some(third) = words.next() else {
+        return of_bytes(rt, verb, operand);
     };
-    of_bytes(rt, verb, &space[0..n])
-}
-
-fn of_bytes(rt: &impl Print, verb: &[u8], bytes: &[u8]) -> bool {
-    if same(verb, b"read") {
-        say_frame(rt, wire::read_frame(bytes));
-        return true;
-    }
-    if same(verb, b"unframe") {
-        say_framing(rt, wire::unframe(bytes));
-        return true;
-    }
-    if same(verb, b"check") {
-        say_checked(rt, wire::check_block(bytes));
-        return true;
-    }
-    if same(verb, b"register") {
-        return of_register(rt, bytes);
-    }
-    of_sum(rt, verb, bytes)
-}
-
-fn of_sum(rt: &impl Print, verb: &[u8], bytes: &[u8]) -> bool {
-    if same(verb, b"last") {
-        say_hex(rt, &[wire::last_byte(bytes)]);
-        return true;
-    }
-    if same(verb, b"crc7") {
-        say_hex(rt, &[crc::crc7(bytes)]);
-        return true;
-    }
-    if same(verb, b"crc16") {
-        say_half(rt, crc::crc16(bytes));
-        return true;
-    }
-    false
-}
-
-fn of_register(rt: &impl Print, bytes: &[u8]) -> bool {
-    if bytes.len() != 16 {
-        return false;
-    }
-    if wire::register_right(sixteen(bytes)) {
-        say(rt, b"right");
-    } else {
-        say(rt, b"wrong");
-    }
-    true
-}
-
-fn sixteen(bytes: &[u8]) -> [u8; 16]
-    requires { length bytes.now ≡ 16 }
-{
-    let mut register = [0u8; 16];
-    let mut i: usize = 0;
-    while i < 16 {
-        register[i] = bytes[i];
-        i += 1;
-    }
-    register
-}
-
-// VERB, one word or two, `into N`.
-fn asked_into(rt: &impl Print, line: &[u8]) -> bool {
-    let k = spaces(line);
-    if k < 3 {
-        return false;
-    }
-    if !same(word(line, k - 1), b"into") {
-        return false;
-    }
-    let Number::Is(n) = number_of(word(line, k)) else {
-        return false;
+    let fourth = words.next()?;
+    let Some(fifth) = words.next() else {
+        return into(rt, verb, operand, lent(third, fourth)?);
     };
-    if 4096 < n {
-        return false;
+    if words.next().is_some() {
+        return None;
     }
-    let mut space = [0xA5u8; 4096];
-    if k == 3 {
-        return into(rt, word(line, 0), word(line, 1), &mut space[0..n]);
-    }
-    if k == 4 {
-        return index_into(
-            rt,
-            word(line, 0),
-            word(line, 1),
-            word(line, 2),
-            &mut space[0..n],
-        );
-    }
-    false
+    index_into(rt, verb, operand, third, lent(fourth, fifth)?)
 }
 
-fn into(rt: &impl Print, verb: &[u8], operand: &[u8], out: &mut [u8]) -> bool {
-    if same(verb, b"r3") {
-        let Number32::Is(ocr) = word_of(operand) else {
-            return false;
-        };
-        let answer = wire::write_r3(R3 { ocr }, out);
-        say_written(rt, answer, out);
-        return true;
+fn of_bytes(rt: &impl Print, verb: &[u8], hex: &[u8]) -> Option<()> {
+    let bytes = bytes_of(hex)?;
+    let bytes = bytes.as_slice();
+    match verb {
+        b"read" => say_frame(rt, wire::read_frame(bytes)),
+        b"unframe" => say_framing(rt, wire::unframe(bytes)),
+        b"check" => say_checked(rt, wire::check_block(bytes)),
+        b"register" => {
+            let right = wire::register_right(bytes.try_into().ok()?);
+            say(rt, if right { b"right" } else { b"wrong" });
+        }
+        b"last" => say_hex(rt, &[wire::last_byte(bytes)]),
+        b"crc7" => say_hex(rt, &[crc::crc7(bytes)]),
+        b"crc16" => say_hex(rt, &crc::crc16(bytes).to_be_bytes()),
+        _ => return None,
     }
-    let mut space = [0u8; 4096];
-    let Number::Is(n) = bytes_of(operand, &mut space) else {
-        return false;
+    Some(())
+}
+
+// The output that `into N` lends.
+fn lent(into: &[u8], n: &[u8]) -> Option<Bytes> {
+    if into != b"into".as_slice() {
+        return None;
+    }
+    let mut out = Bytes::new();
+    repeat(0xA5, number_of(n)?, &mut out)?;
+    Some(out)
+}
+
+fn into(rt: &impl Print, verb: &[u8], operand: &[u8], mut out: Bytes) -> Option<()> {
+    let out = out.as_mut_slice();
+    let answer = match verb {
+        b"r3" => {
+            let ocr = word_of(operand)?;
+            wire::write_r3(R3 { ocr }, out)
+        }
+        b"r2" => {
+            let register = bytes_of(operand)?.as_slice().try_into().ok()?;
+            wire::write_r2(R2 { register }, out)
+        }
+        b"block" => wire::write_block(bytes_of(operand)?.as_slice(), out),
+        _ => return None,
     };
-    bytes_into(rt, verb, &space[0..n], out)
-}
-
-fn bytes_into(rt: &impl Print, verb: &[u8], bytes: &[u8], out: &mut [u8]) -> bool {
-    if same(verb, b"block") {
-        let answer = wire::write_block(bytes, out);
-        say_written(rt, answer, out);
-        return true;
-    }
-    if !same(verb, b"r2") {
-        return false;
-    }
-    if bytes.len() != 16 {
-        return false;
-    }
-    let register = sixteen(bytes);
-    let answer = wire::write_r2(R2 { register }, out);
     say_written(rt, answer, out);
-    true
+    Some(())
 }
 
-fn index_into(rt: &impl Print, verb: &[u8], index: &[u8], number: &[u8], out: &mut [u8]) -> bool {
-    let Number::Is(i) = number_of(index) else {
-        return false;
+fn index_into(
+    rt: &impl Print,
+    verb: &[u8],
+    index: &[u8],
+    number: &[u8],
+    mut out: Bytes,
+) -> Option<()> {
+    let out = out.as_mut_slice();
+    let index = u8::try_from(number_of(index)?).ok()?;
+    let number = word_of(number)?;
+    let answer = match verb {
+        b"command" => wire::write_command(index, number, out),
+        b"r1" => {
+            let status = number;
+            wire::write_r1(R1 { index, status }, out)
+        }
+        _ => return None,
     };
-    if 255 < i {
-        return false;
-    }
-    let Number32::Is(w) = word_of(number) else {
-        return false;
-    };
-    let index = i as u8;
-    if same(verb, b"command") {
-        let answer = wire::write_command(index, w, out);
-        say_written(rt, answer, out);
-        return true;
-    }
-    if same(verb, b"r1") {
-        let answer = wire::write_r1(R1 { index, status: w }, out);
-        say_written(rt, answer, out);
-        return true;
-    }
-    false
+    say_written(rt, answer, out);
+    Some(())
 }

@@ -17,7 +17,7 @@ use Rattle.base.specs.Choice.{unless}
 use Rattle.base.specs.Output.{laid}
 use Rattle.base.specs.Refusals.{by}
 use Rattle.base.specs.declared.Refusal.{Refusal}
-use Rattle.base.proofs.Cases.{clash, passed}
+use Rattle.base.proofs.Cases.{unrefused, passed}
 use Rattle.base.proofs.Output.{front}
 use Rattle.crc.specs.Bits.{bits, spelt, Below}
 use Rattle.crc.specs.Crc.{remainder, check_sum, generator16, crc16}
@@ -27,18 +27,14 @@ use Rattle.crc.proofs.Flips.{flip_below, flip_found}
 use Rattle.crc.proofs.Steps.{low16, p16}
 use Rattle.wire.specs.Blocks.{longest_block, block_of, block_written, payload_of, crc_in, checked_of}
 use Rattle.wire.specs.Flipped.{flipped}
-use Rattle.wire.specs.declared.Checked.{Checked}
-use Rattle.wire.specs.declared.Checked.TheVariants.{Payload, Refused}
+use Rattle.std.specs.Prelude.{Result, Ok, Err}
 
 -- ---- by the tests of the rule
 -- a block of a good length is judged by its CRC16 alone
 judged : (b : List ℕ) → 3 ≤ length b → length b ≤ 2050
-    → checked_of b ≡ unless (eqb (crc_in b) (crc16 (payload_of b))) (Refused (by 17)) (Payload (length b - 2))
+    → checked_of b ≡ unless (eqb (crc_in b) (crc16 (payload_of b))) (Err (by 17)) (Ok (length b - 2))
 unfolding checked_of
 judged b lo hi = simp (le-leb 3 (length b) lo, le-leb (length b) 2050 hi)
-
-no_refusal : (r : Refusal) (n : ℕ) → ◌≡◌ {A = Checked} (Refused r) (Payload n) → ⊥
-no_refusal r n e = clash cc
 
 pub record Good (b : List ℕ) (n : ℕ) : Type 0 where
   pub low : 3 ≤ length b
@@ -46,13 +42,13 @@ pub record Good (b : List ℕ) (n : ℕ) : Type 0 where
   pub crc : crc_in b ≡ crc16 (payload_of b)
   pub long : length b - 2 ≡ n
 
-pub good : (b : List ℕ) (n : ℕ) → checked_of b ≡ Payload n → Good b n
+pub good : (b : List ℕ) (n : ℕ) → checked_of b ≡ Ok n → Good b n
 unfolding checked_of
 good b n e =
-    let t0 = passed (leb 3 (length b)) (Refused (by 5)) _ (Payload n) (no_refusal (by 5) n) e in
-    let t1 = passed (leb (length b) (longest_block + 2)) (Refused (by 5)) _ (Payload n) (no_refusal (by 5) n) t0.1 in
-    let t2 = passed (eqb (crc_in b) (crc16 (payload_of b))) (Refused (by 17)) _ (Payload n) (no_refusal (by 17) n) t1.1 in
-    let last : ◌≡◌ {A = Checked} (Payload (length b - 2)) (Payload n) = t2.1 in
+    let t0 = passed (leb 3 (length b)) (Err (by 5)) _ (Ok n) unrefused e in
+    let t1 = passed (leb (length b) (longest_block + 2)) (Err (by 5)) _ (Ok n) unrefused t0.1 in
+    let t2 = passed (eqb (crc_in b) (crc16 (payload_of b))) (Err (by 17)) _ (Ok n) unrefused t1.1 in
+    let last : ◌≡◌ {A = Result ℕ Refusal} (Ok (length b - 2)) (Ok n) = t2.1 in
     record {
       low = leb-true 3 (length b) t0.0;
       high = leb-true (length b) 2050 t1.0;
@@ -65,7 +61,7 @@ pub long : (p : List ℕ) → length (block_of p) ≡ length p + 2
 unfolding block_of
 long p = length-append p (crc16 p / 256 ∷ crc16 p % 256 ∷ [])
 
-pub check_after_write : (p : List ℕ) → 1 ≤ length p → length p ≤ longest_block → checked_of (block_of p) ≡ Payload (length p)
+pub check_after_write : (p : List ℕ) → 1 ≤ length p → length p ≤ longest_block → checked_of (block_of p) ≡ Ok (length p)
 unfolding block_of
 check_after_write p lo hi =
     let v : ℕ = crc16 p in
@@ -82,7 +78,7 @@ check_after_write p lo hi =
 
 -- the same of what a call leaves at the front of any output that is long enough
 pub check_back : (p out : List ℕ) → 1 ≤ length p → length p ≤ longest_block → length p + 2 ≤ length out
-    → checked_of (take (length p + 2) (laid (block_written p out) (block_of p) out)) ≡ Payload (length p)
+    → checked_of (take (length p + 2) (laid (block_written p out) (block_of p) out)) ≡ Ok (length p)
 unfolding block_written
 check_back p out lo hi ho =
     simp (le-leb 1 (length p) lo, le-leb (length p) longest_block hi)
@@ -108,7 +104,7 @@ get_or_below m [] k h b = h
 get_or_below m (x ∷ l) zero h b = b.0
 get_or_below m (x ∷ l) (suc k) h b = get_or_below m l k h b.1
 
-pub write_after_check : (b : List ℕ) → Below 256 b → (n : ℕ) → checked_of b ≡ Payload n → b ≡ block_of (take n b)
+pub write_after_check : (b : List ℕ) → Below 256 b → (n : ℕ) → checked_of b ≡ Ok n → b ≡ block_of (take n b)
 unfolding block_of
 write_after_check b bb n e =
     let g = good b n e in
@@ -144,8 +140,8 @@ rule b bb h =
     ∙ pair x y (get_or_below 256 b m (omega arith) bb) (get_or_below 256 b (length b - 1) (omega arith) bb)))
     (sym (bits_take m b (omega arith)))
 
-pub flip_refused : (b : List ℕ) → Below 256 b → (n : ℕ) → checked_of b ≡ Payload n → (k : ℕ) → k < length b * 8
-    → checked_of (flipped k b) ≡ Refused (by 17)
+pub flip_refused : (b : List ℕ) → Below 256 b → (n : ℕ) → checked_of b ≡ Ok n → (k : ℕ) → k < length b * 8
+    → checked_of (flipped k b) ≡ Err (by 17)
 flip_refused b bb n e k hk =
     let g = good b n e in
     let w : List ℕ = bits b in

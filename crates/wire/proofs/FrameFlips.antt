@@ -21,10 +21,9 @@ use Rattle.crc.proofs.Bits.{below_take, bits_below, bits_octets, length_bits, le
 use Rattle.crc.proofs.Flips.{flip_below, flip_found}
 use Rattle.crc.proofs.Steps.{low7, p7}
 use Rattle.wire.specs.Flipped.{flipped, framing_bit}
-use Rattle.wire.specs.Frames.{crc7_of, field, fields_of, framing_of, checked, frame_of}
-use Rattle.wire.specs.declared.Frame.TheVariants.{Command, Refused}
-use Rattle.wire.specs.declared.Framing.TheVariants.{Unframed}
+use Rattle.wire.specs.Frames.{crc7_of, field, fields_of, framing_of, checked, frame_of, as_command}
 use Rattle.wire.proofs.FrameTheorems.{Sent, read}
+use Rattle.std.specs.Prelude.{Ok, Err}
 
 -- a field of one bit is that bit
 one : (w : List ℕ) (j : ℕ) → j < length w → field w j 1 ≡ get_or w j 0
@@ -37,19 +36,19 @@ drop_take (suc m) n (x ∷ w) = ap (λ (k : ℕ). drop (suc m) (take k (x ∷ w)
 
 -- how bits are refused, by the first thing that is wrong with them
 module _ (v : List ℕ) where
-  bad_start : field v 0 1 ≡ 1 → checked (fields_of v) ≡ Refused (by 2)
+  bad_start : field v 0 1 ≡ 1 → checked (fields_of v) ≡ Err (by 2)
   unfolding fields_of
   bad_start e = simp e
 
-  bad_transmission : field v 0 1 ≡ 0 → field v 1 1 ≡ 0 → checked (fields_of v) ≡ Refused (by 2)
+  bad_transmission : field v 0 1 ≡ 0 → field v 1 1 ≡ 0 → checked (fields_of v) ≡ Err (by 2)
   unfolding fields_of
   bad_transmission e0 e1 = simp (e0, e1)
 
-  bad_end : field v 0 1 ≡ 0 → field v 1 1 ≡ 1 → field v 47 1 ≡ 0 → checked (fields_of v) ≡ Refused (by 2)
+  bad_end : field v 0 1 ≡ 0 → field v 1 1 ≡ 1 → field v 47 1 ≡ 0 → checked (fields_of v) ≡ Err (by 2)
   unfolding fields_of
   bad_end e0 e1 e47 = simp (e0, e1, e47)
 
-  bad_crc : field v 0 1 ≡ 0 → field v 1 1 ≡ 1 → field v 47 1 ≡ 1 → (field v 40 7 ≡ crc7_of (take 40 v) → ⊥) → checked (fields_of v) ≡ Refused (by 3)
+  bad_crc : field v 0 1 ≡ 0 → field v 1 1 ≡ 1 → field v 47 1 ≡ 1 → (field v 40 7 ≡ crc7_of (take 40 v) → ⊥) → checked (fields_of v) ≡ Err (by 3)
   unfolding fields_of
   bad_crc e0 e1 e47 d = simp (e0, e1, e47, ne_eqb (field v 40 7) (crc7_of (take 40 v)) d)
 
@@ -81,7 +80,7 @@ module _ (w : List ℕ) (i a : ℕ) (s : Sent w i a) (b : Below 2 w) (n : length
       (subst (λ (P : Type 0). P) (crc_of w) s.crc)
       (subst (λ (v : List ℕ). spelt (drop 40 v) ≡ remainder 7 generator7 (take 40 v)) (first_47 h) (subst (λ (P : Type 0). P) (crc_of (flip k w)) e))
 
-  flip_sent : checked (fields_of (flip k w)) ≡ Refused (pick (framing_bit k) (by 2) (by 3))
+  flip_sent : checked (fields_of (flip k w)) ≡ Err (pick (framing_bit k) (by 2) (by 3))
   flip_sent =
       cases (eqb k 0)
       (λ (e0 : eqb k 0 ≡ true). simp e0 (bad_start (flip k w) (turned 0 0 (sym (eqb-true k 0 e0)) s.start)))
@@ -98,7 +97,7 @@ module _ (w : List ℕ) (i a : ℕ) (s : Sent w i a) (b : Below 2 w) (n : length
       let d = eqb-false k 47 n47 in
       simp (n0, n1, n47) (bad_crc (flip k w) start transmission end (wrong (omega arith))))))
 
-pub flip_refused : (f : List ℕ) (i a : ℕ) → frame_of f ≡ Command i a → (k : ℕ) → k < 48 → frame_of (flipped k f) ≡ Refused (pick (framing_bit k) (by 2) (by 3))
+pub flip_refused : (f : List ℕ) (i a : ℕ) → frame_of f ≡ Ok (as_command i a) → (k : ℕ) → k < 48 → frame_of (flipped k f) ≡ Err (pick (framing_bit k) (by 2) (by 3))
 unfolding frame_of framing_of
 flip_refused f i a e k hk =
     let r = read f i a e in
@@ -108,5 +107,5 @@ flip_refused f i a e k hk =
     let n48 : length w ≡ 48 = n ∙ ap (λ (m : ℕ). m * 8) r.0 in
     let six : length (flipped k f) ≡ 6 = length_octets (length f) (flip k w) ∙ r.0 in
     let is : bits (flipped k f) ≡ flip k w = bits_octets (length f) (flip k w) (length-set w k (1 - get_or w k 0) ∙ n) (flip_below k w b) in
-    ap₂ (λ (t : Bool) (v : List ℕ). checked (unless t (Unframed (by 1)) (fields_of v))) (eq-eqb (length (flipped k f)) 6 six) is
+    ap₂ (λ (t : Bool) (v : List ℕ). checked (unless t (Err (by 1)) (fields_of v))) (eq-eqb (length (flipped k f)) 6 six) is
     ∙ flip_sent w i a r.1 b n48 k hk

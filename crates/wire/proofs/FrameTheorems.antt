@@ -17,18 +17,18 @@ use Rattle.base.specs.Choice.{unless}
 use Rattle.base.specs.Output.{fits, laid}
 use Rattle.base.specs.Refusals.{by}
 use Rattle.base.specs.declared.Refusal.{Refusal}
-use Rattle.base.specs.declared.Written.TheVariants.{Refused as NotWritten}
-use Rattle.base.proofs.Cases.{clash, passed}
+use Rattle.base.proofs.Cases.{clash, unrefused, passed}
 use Rattle.base.proofs.Output.{front}
 use Rattle.crc.specs.Bits.{bits_of, bits, spelt, octets, Below}
 use Rattle.crc.proofs.Bits.{below_append, below_take, below_drop, bits_of_below, bits_below, length_bits, bits_of_spelt, bits_octets, octets_bits, spelt_bits_of, spelt_lt}
 use Rattle.crc.proofs.Remainder.{the_remainder}
 use Rattle.crc.proofs.Steps.{low7, p7}
-use Rattle.wire.specs.Frames.{crc7_of, sealed, command_frame, indexed, field, fields_of, framing_of, checked, frame_of}
-use Rattle.wire.specs.declared.Frame.TheVariants.{Command}
-use Rattle.wire.specs.declared.Framing.{Framing}
-use Rattle.wire.specs.declared.Framing.TheVariants.{Framed, Unframed}
+use Rattle.wire.specs.Frames.{crc7_of, sealed, command_frame, indexed, field, as_fields, as_command, fields_of, framing_of, checked, frame_of}
 use Rattle.wire.proofs.InBytes.{six_bytes}
+use Rattle.wire.proofs.Told.{fields_told, command_told}
+use Rattle.std.specs.Prelude.{Result, Ok, Err}
+use Rattle.wire.specs.declared.Command.{Command}
+use Rattle.wire.specs.declared.Fields.{Fields}
 
 -- the 48 bits of a command
 abbrev command_bits : ℕ → ℕ → List ℕ
@@ -50,27 +50,27 @@ unfolding crc7_of
 crc7_small l b = (the_remainder 7 low7 p7 l b).lower
 
 -- they are framed, and their CRC7 is right
-sent_command : (i a : ℕ) → i < 64 → a < 2 ^ 32 → fields_of (command_bits i a) ≡ Framed i a true
+sent_command : (i a : ℕ) → i < 64 → a < 2 ^ 32 → fields_of (command_bits i a) ≡ Ok (as_fields i a true)
 unfolding fields_of sealed
 sent_command i a hi ha =
     let l : List ℕ = 0 ∷ 1 ∷ bits_of 6 i ++ bits_of 32 a in
     let c : ℕ = crc7_of l in
     let b : Below 2 l = (omega arith, (omega arith, below_append 2 (bits_of 6 i) (bits_of 32 a) (bits_of_below 6 i) (bits_of_below 32 a))) in
     let ec : spelt (bits_of 7 c) ≡ c = spelt_bits_of 7 c ∙ mod-eq_of_lt (crc7_small l b) in
-    ap₂ (λ (x y : ℕ). Framed x y (eqb (spelt (bits_of 7 c)) c)) (spelt_bits_of 6 i ∙ mod-eq_of_lt hi) (spelt_bits_of 32 a ∙ mod-eq_of_lt ha)
-    ∙ ap (Framed i a) (eq-eqb (spelt (bits_of 7 c)) c ec)
+    ap₂ (λ (x y : ℕ). Ok (as_fields x y (eqb (spelt (bits_of 7 c)) c))) (spelt_bits_of 6 i ∙ mod-eq_of_lt hi) (spelt_bits_of 32 a ∙ mod-eq_of_lt ha)
+    ∙ ap (λ (right : Bool). Ok (as_fields i a right)) (eq-eqb (spelt (bits_of 7 c)) c ec)
 
-pub read_after_write : (i a : ℕ) → i < 64 → a < 2 ^ 32 → frame_of (command_frame i a) ≡ Command i a
+pub read_after_write : (i a : ℕ) → i < 64 → a < 2 ^ 32 → frame_of (command_frame i a) ≡ Ok (as_command i a)
 unfolding frame_of framing_of command_frame
 read_after_write i a hi ha = ap checked (ap fields_of (command_bits_lem i a) ∙ sent_command i a hi ha)
 
 -- the same of what a call leaves at the front of any output that is long enough
 pub read_back : (i a : ℕ) (out : List ℕ) → i < 64 → a < 2 ^ 32 → 6 ≤ length out
-    → frame_of (take 6 (laid (indexed i (command_frame i a) out) (command_frame i a) out)) ≡ Command i a
+    → frame_of (take 6 (laid (indexed i (command_frame i a) out) (command_frame i a) out)) ≡ Ok (as_command i a)
 unfolding command_frame
 read_back i a out hi ha ho =
     let f : List ℕ = command_frame i a in
-    ap (λ (t : Bool). frame_of (take 6 (laid (unless t (NotWritten (by 4)) (fits f out)) f out))) (le-leb i 63 (omega arith))
+    ap (λ (t : Bool). frame_of (take 6 (laid (unless t (Err (by 4)) (fits f out)) f out))) (le-leb i 63 (omega arith))
     ∙ ap frame_of (front f out 6 refl ho)
     ∙ read_after_write i a hi ha
 
@@ -83,35 +83,38 @@ pub record Sent (w : List ℕ) (i a : ℕ) : Type 0 where
   pub argument : field w 8 32 ≡ a
   pub crc : field w 40 7 ≡ crc7_of (take 40 w)
 
-no_refusal : (r : Refusal) (i a : ℕ) → ◌≡◌ {A = Framing} (Unframed r) (Framed i a true) → ⊥
-no_refusal r i a e = clash cc
-
-sent : (w : List ℕ) (i a : ℕ) → fields_of w ≡ Framed i a true → Sent w i a
+sent : (w : List ℕ) (i a : ℕ) → fields_of w ≡ Ok (as_fields i a true) → Sent w i a
 unfolding fields_of
 sent w i a e =
-    let t0 = passed (eqb (field w 0 1) 0) (Unframed (by 2)) _ (Framed i a true) (no_refusal (by 2) i a) e in
-    let t1 = passed (eqb (field w 1 1) 1) (Unframed (by 2)) _ (Framed i a true) (no_refusal (by 2) i a) t0.1 in
-    let t2 = passed (eqb (field w 47 1) 1) (Unframed (by 2)) _ (Framed i a true) (no_refusal (by 2) i a) t1.1 in
-    let last : ◌≡◌ {A = Framing} (Framed (field w 2 6) (field w 8 32) (eqb (field w 40 7) (crc7_of (take 40 w)))) (Framed i a true) = t2.1 in
+    let t0 = passed (eqb (field w 0 1) 0) (Err (by 2)) _ (Ok (as_fields i a true)) unrefused e in
+    let t1 = passed (eqb (field w 1 1) 1) (Err (by 2)) _ (Ok (as_fields i a true)) unrefused t0.1 in
+    let t2 = passed (eqb (field w 47 1) 1) (Err (by 2)) _ (Ok (as_fields i a true)) unrefused t1.1 in
+    let last = fields_told t2.1 in
     record {
       start = eqb-true (field w 0 1) 0 t0.0;
       transmission = eqb-true (field w 1 1) 1 t1.0;
       end = eqb-true (field w 47 1) 1 t2.0;
-      index = cc;
-      argument = cc;
-      crc = eqb-true (field w 40 7) (crc7_of (take 40 w)) (cc);
+      index = ap (λ (f : Fields). f.index) last;
+      argument = ap (λ (f : Fields). f.argument) last;
+      crc = eqb-true (field w 40 7) (crc7_of (take 40 w)) (ap (λ (f : Fields). f.crc_right) last);
     }
 
 -- a command that is read came in a frame with the right CRC7
-pub framing : (g : Framing) (i a : ℕ) → checked g ≡ Command i a → g ≡ Framed i a true
-framing (Framed x y true) i a e = let ex : x ≡ i = cc in let ey : y ≡ a = cc in ap₂ (λ (p q : ℕ). Framed p q true) ex ey
-framing (Framed x y false) i a e = clash cc
-framing (Unframed r) i a e = clash cc
+framed_right : (x y : ℕ) (right : Bool) (i a : ℕ) → checked (Ok (as_fields x y right)) ≡ Ok (as_command i a)
+    → ◌≡◌ {A = Result Fields Refusal} (Ok (as_fields x y right)) (Ok (as_fields i a true))
+framed_right x y true i a e =
+    let told = command_told e in
+    ap₂ (λ (p q : ℕ). Ok (as_fields p q true)) (ap (λ (c : Command). c.index) told) (ap (λ (c : Command). c.argument) told)
+framed_right x y false i a e = clash cc
 
-pub read : (f : List ℕ) (i a : ℕ) → frame_of f ≡ Command i a → (length f ≡ 6) × Sent (bits f) i a
+pub framing : (g : Result Fields Refusal) (i a : ℕ) → checked g ≡ Ok (as_command i a) → g ≡ Ok (as_fields i a true)
+framing (Ok fields) i a e = framed_right fields.index fields.argument fields.crc_right i a e
+framing (Err r) i a e = clash cc
+
+pub read : (f : List ℕ) (i a : ℕ) → frame_of f ≡ Ok (as_command i a) → (length f ≡ 6) × Sent (bits f) i a
 unfolding frame_of framing_of
 read f i a e =
-    let t = passed (eqb (length f) 6) (Unframed (by 1)) (fields_of (bits f)) (Framed i a true) (no_refusal (by 1) i a) (framing (framing_of f) i a e) in
+    let t = passed (eqb (length f) 6) (Err (by 1)) (fields_of (bits f)) (Ok (as_fields i a true)) unrefused (framing (framing_of f) i a e) in
     (eqb-true (length f) 6 t.0, sent (bits f) i a t.1)
 
 -- ---- any frame that is read is the one that the writer gives
@@ -140,7 +143,7 @@ field_lt w k n b h =
     subst (λ (m : ℕ). field w k n < 2 ^ m) (length-take-le n (drop k w) (rw (length-drop k w) (omega arith)))
     (spelt_lt (take n (drop k w)) (below_take 2 n (drop k w) (below_drop 2 k w b)))
 
-pub write_after_read : (f : List ℕ) → Below 256 f → (i a : ℕ) → frame_of f ≡ Command i a → (i < 64) × (a < 2 ^ 32) × (f ≡ command_frame i a)
+pub write_after_read : (f : List ℕ) → Below 256 f → (i a : ℕ) → frame_of f ≡ Ok (as_command i a) → (i < 64) × (a < 2 ^ 32) × (f ≡ command_frame i a)
 unfolding command_frame
 write_after_read f b i a e =
     let r = read f i a e in

@@ -3,7 +3,8 @@
 --   last_is       the byte that closes bytes is their CRC7, times 2, plus 1
 --   sealed_bits   bytes closed by that byte are their bits closed by CRC7 and a 1
 --   first_bits    the bits of a frame's first byte: 0, the transmission bit, the index
---   word_bits     the bits of a 32-bit number, by its four bytes
+--   word_bytes    the four bytes of a 32-bit number, highest first
+--   word_bits     the bits of a 32-bit number, by them
 --   frame_bytes   a frame of 48 bits, by its six bytes
 --   framing_is    a frame's fields, by its six bytes; framing_good, where the framing bits are right
 --   r3_bytes_lem      an R3, by its six bytes
@@ -16,17 +17,19 @@ use native.Mathlib.Omega.{arith}
 use lib.Dec.{eqb}
 use borrow.Author.Tests.{eq-eqb}
 use lib.ListN.{length, get_or, take}
+use Rattle.std.specs.Int.{w32, to_be_bytes}
 use Rattle.base.specs.Choice.{unless}
 use Rattle.base.specs.Refusals.{by}
 use Rattle.crc.specs.Bits.{bits_of, bits, spelt, octets}
 use Rattle.crc.specs.Crc.{check_sum, crc7}
 use Rattle.crc.proofs.Bits.{bits_append, bits_of_append, bits_of_low, bits_of_spelt, bits_of_below, below_append, octets_bits, spelt_bits_of}
 use Rattle.crc.proofs.Steps.{crc7_lt}
-use Rattle.wire.specs.Frames.{crc7_of, sealed, field, fields_of, framing_of}
+use Rattle.wire.specs.Frames.{crc7_of, sealed, field, fields_of, framing_of, as_fields}
 use Rattle.wire.specs.Responses.{last_byte, r3_frame}
-use Rattle.wire.specs.declared.Framing.{Framing}
-use Rattle.wire.specs.declared.Framing.TheVariants.{Framed, Unframed}
 use Rattle.wire.specs.declared.R3.{R3}
+use Rattle.std.specs.Prelude.{Result, Ok, Err}
+use Rattle.base.specs.declared.Refusal.{Refusal}
+use Rattle.wire.specs.declared.Fields.{Fields}
 
 pub crc7_bits : (bs : List ℕ) → crc7_of (bits bs) ≡ crc7 bs
 unfolding crc7 check_sum crc7_of
@@ -62,6 +65,11 @@ first_bits t i ht hi =
 abbrev pub bytes4 : ℕ → List ℕ
 bytes4 w = w / 16777216 ∷ w / 65536 % 256 ∷ w / 256 % 256 ∷ w % 256 ∷ []
 
+pub word_bytes : (w : ℕ) → w < 2 ^ 32 → to_be_bytes w32 w ≡ bytes4 w
+word_bytes w h =
+    let e : w / 16777216 % 256 ≡ w / 16777216 = omega arith in
+    ap (λ (x : ℕ). x ∷ w / 65536 % 256 ∷ w / 256 % 256 ∷ w % 256 ∷ []) e
+
 pub word_bits : (w : ℕ) → bits_of 32 w ≡ bits (bytes4 w)
 unfolding bits
 word_bits w =
@@ -91,12 +99,12 @@ six_bytes (b0 ∷ b1 ∷ b2 ∷ b3 ∷ b4 ∷ b5 ∷ []) e = refl
 six_bytes (b0 ∷ b1 ∷ b2 ∷ b3 ∷ b4 ∷ b5 ∷ b6 ∷ f) e = absurd (omega arith)
 
 -- what framing_of says of six bytes
-abbrev by_bytes : (b0 b1 b2 b3 b4 b5 : ℕ) → Framing
+abbrev by_bytes : (b0 b1 b2 b3 b4 b5 : ℕ) → Result Fields Refusal
 by_bytes b0 b1 b2 b3 b4 b5 =
-    unless (eqb (b0 / 128) 0) (Unframed (by 2))
-    (unless (eqb (b0 / 64 % 2) 1) (Unframed (by 2))
-    (unless (eqb (b5 % 2) 1) (Unframed (by 2))
-    (Framed (b0 % 64) (spelt (bits (b1 ∷ b2 ∷ b3 ∷ b4 ∷ []))) (eqb (b5 / 2) (crc7 (b0 ∷ b1 ∷ b2 ∷ b3 ∷ b4 ∷ []))))))
+    unless (eqb (b0 / 128) 0) (Err (by 2))
+    (unless (eqb (b0 / 64 % 2) 1) (Err (by 2))
+    (unless (eqb (b5 % 2) 1) (Err (by 2))
+    (Ok (as_fields (b0 % 64) (spelt (bits (b1 ∷ b2 ∷ b3 ∷ b4 ∷ []))) (eqb (b5 / 2) (crc7 (b0 ∷ b1 ∷ b2 ∷ b3 ∷ b4 ∷ [])))))))
 
 six : (b0 b1 b2 b3 b4 b5 : ℕ) → b0 < 256 → b5 < 256 → framing_of (b0 ∷ b1 ∷ b2 ∷ b3 ∷ b4 ∷ b5 ∷ []) ≡ by_bytes b0 b1 b2 b3 b4 b5
 unfolding framing_of fields_of bits
@@ -116,11 +124,11 @@ pub framing_is : (f : List ℕ) → length f ≡ 6 → ((k : ℕ) → get_or f k
 framing_is f e h = ap framing_of (six_bytes f e) ∙ six (get_or f 0 0) (get_or f 1 0) (get_or f 2 0) (get_or f 3 0) (get_or f 4 0) (get_or f 5 0) (h 0) (h 5)
 
 -- what six bytes mean whose framing bits are right
-abbrev pub meaning : List ℕ → ℕ → ℕ → Framing
-meaning f argument crc = Framed (get_or f 0 0 % 64) argument (eqb (get_or f 5 0 / 2) crc)
+abbrev pub meaning : List ℕ → ℕ → ℕ → Result Fields Refusal
+meaning f argument crc = Ok (as_fields (get_or f 0 0 % 64) argument (eqb (get_or f 5 0 / 2) crc))
 
-good : (b0 b5 : ℕ) (x : Framing) → b0 / 128 ≡ 0 → b0 / 64 % 2 ≡ 1 → b5 % 2 ≡ 1
-    → unless (eqb (b0 / 128) 0) (Unframed (by 2)) (unless (eqb (b0 / 64 % 2) 1) (Unframed (by 2)) (unless (eqb (b5 % 2) 1) (Unframed (by 2)) x)) ≡ x
+good : (b0 b5 : ℕ) (x : Result Fields Refusal) → b0 / 128 ≡ 0 → b0 / 64 % 2 ≡ 1 → b5 % 2 ≡ 1
+    → unless (eqb (b0 / 128) 0) (Err (by 2)) (unless (eqb (b0 / 64 % 2) 1) (Err (by 2)) (unless (eqb (b5 % 2) 1) (Err (by 2)) x)) ≡ x
 good b0 b5 x e0 e1 e5 = simp (eq-eqb (b0 / 128) 0 e0, eq-eqb (b0 / 64 % 2) 1 e1, eq-eqb (b5 % 2) 1 e5)
 
 pub framing_good : (f : List ℕ) → length f ≡ 6 → ((k : ℕ) → get_or f k 0 < 256) → get_or f 0 0 / 128 ≡ 0 → get_or f 0 0 / 64 % 2 ≡ 1 → get_or f 5 0 % 2 ≡ 1

@@ -1,6 +1,7 @@
 pub mod BlockTheorems
+pub mod Closing
 pub mod FrameFlips
 pub mod FrameTheorems
 pub mod InBytes
-pub mod Writing
+pub mod Told
 pub mod WrongAnswers

@@ -22,26 +22,26 @@
 --   answer_to_cmd16       "10000009000B answers it": so does a status
 --   block_of_80           "payload 80 has CRC16 9188", high byte first: so does a CRC16 with its low byte in front
 -- Assumes nothing.
-use mathlib.Core.Path.{◌≡◌, refl, ap}
+use mathlib.Core.Path.{◌≡◌, refl, sym, ap}
 use mathlib.Core.Bool.{true, false}
 use mathlib.Core.List.{List, [], ◌∷◌, ◌++◌}
 use Prim.Native.Nat.{ℕ, ◌+◌, ◌*◌}
 use native.Mathlib.Omega.{arith}
 use lib.ListN.{get_or, replicate}
-use Rattle.base.proofs.Cases.{clash}
+use Rattle.base.proofs.Cases.{clash, never}
 use Rattle.base.specs.Output.{fits}
 use Rattle.base.specs.Refusals.{by}
-use Rattle.base.specs.declared.Written.TheVariants.{Bytes}
 use Rattle.crc.specs.Bits.{bits_of, bits, octets}
 use Rattle.crc.specs.Crc.{divide, remainder, check_sum, crc7, crc16}
 use Rattle.wire.specs.Blocks.{block_of, block_written, checked_of}
-use Rattle.wire.specs.Frames.{crc7_of, sealed, command_frame, indexed, fields_of, framing_of}
+use Rattle.wire.specs.Frames.{crc7_of, sealed, command_frame, indexed, fields_of, framing_of, as_fields}
 use Rattle.wire.specs.Responses.{r1_frame, r2_frame, r3_frame, last_byte, register_right}
-use Rattle.wire.specs.declared.Checked.TheVariants.{Payload, Refused}
-use Rattle.wire.specs.declared.Framing.TheVariants.{Framed}
 use Rattle.wire.specs.declared.R1.{R1}
 use Rattle.wire.specs.declared.R2.{R2}
 use Rattle.wire.specs.declared.R3.{R3}
+use Rattle.std.specs.Prelude.{Ok, Err}
+use Rattle.wire.specs.declared.Fields.{Fields}
+use Rattle.wire.proofs.Told.{fields_told}
 
 abbrev a1 : R1
 a1 = record { index = 16; status = 0x00000900 }
@@ -52,25 +52,25 @@ a2 = record { register = replicate 16 0 }
 abbrev a3 : R3
 a3 = record { ocr = 0x00FF8000 }
 
-crc7_of_four : framing_of (0x40 ∷ 0x00 ∷ 0x00 ∷ 0x00 ∷ 0x00 ∷ 0x95 ∷ []) ≡ Framed 0 0 false → ⊥
+crc7_of_four : framing_of (0x40 ∷ 0x00 ∷ 0x00 ∷ 0x00 ∷ 0x00 ∷ 0x95 ∷ []) ≡ Ok (as_fields 0 0 false) → ⊥
 unfolding framing_of fields_of crc7_of remainder divide bits
-crc7_of_four e = clash cc
+crc7_of_four e = never (ap (λ (f : Fields). f.crc_right) (sym (fields_told e)))
 
-r1_as_a_command_read : framing_of (0x10 ∷ 0x00 ∷ 0x00 ∷ 0x09 ∷ 0x00 ∷ 0x0B ∷ []) ≡ Framed 16 0x00000900 true → ⊥
+r1_as_a_command_read : framing_of (0x10 ∷ 0x00 ∷ 0x00 ∷ 0x09 ∷ 0x00 ∷ 0x0B ∷ []) ≡ Ok (as_fields 16 0x00000900 true) → ⊥
 unfolding framing_of fields_of bits
 r1_as_a_command_read e = clash cc
 
-command_index_64 : indexed 64 (command_frame 64 0) (replicate 6 0) ≡ Bytes 6 → ⊥
+command_index_64 : indexed 64 (command_frame 64 0) (replicate 6 0) ≡ Ok 6 → ⊥
 command_index_64 e = clash cc
 
 r1_as_a_command : r1_frame a1 ≡ command_frame 16 0x00000900 → ⊥
 unfolding r1_frame command_frame sealed crc7_of remainder divide
 r1_as_a_command e = let z : ◌≡◌ {A = ℕ} 0x10 0x50 = ap (λ (l : List ℕ). get_or l 0 0) e in omega arith
 
-r1_index_64 : indexed 64 (r1_frame a1) (replicate 6 0) ≡ Bytes 6 → ⊥
+r1_index_64 : indexed 64 (r1_frame a1) (replicate 6 0) ≡ Ok 6 → ⊥
 r1_index_64 e = clash cc
 
-r2_in_16_bytes : fits (r2_frame a2) (replicate 16 0) ≡ Bytes 17 → ⊥
+r2_in_16_bytes : fits (r2_frame a2) (replicate 16 0) ≡ Ok 17 → ⊥
 unfolding r2_frame
 r2_in_16_bytes e = clash cc
 
@@ -106,19 +106,19 @@ register_of_14 : register_right (replicate 14 0 ++ (1 ∷ 1 ∷ [])) ≡ true �
 unfolding register_right last_byte crc7_of remainder divide bits
 register_of_14 e = clash cc
 
-payload_2049 : block_written (replicate 2049 0) (replicate 2051 0) ≡ Bytes 2051 → ⊥
+payload_2049 : block_written (replicate 2049 0) (replicate 2051 0) ≡ Ok 2051 → ⊥
 unfolding block_written
 payload_2049 e = clash cc
 
-sum_of_the_block : checked_of (0x80 ∷ 0x91 ∷ 0x88 ∷ []) ≡ Refused (by 17) → ⊥
+sum_of_the_block : checked_of (0x80 ∷ 0x91 ∷ 0x88 ∷ []) ≡ Err (by 17) → ⊥
 unfolding checked_of crc16 check_sum remainder divide bits
 sum_of_the_block e = clash cc
 
-every_block : checked_of (0x80 ∷ 0x91 ∷ 0x89 ∷ []) ≡ Payload 1 → ⊥
+every_block : checked_of (0x80 ∷ 0x91 ∷ 0x89 ∷ []) ≡ Ok 1 → ⊥
 unfolding checked_of crc16 check_sum remainder divide bits
 every_block e = clash cc
 
-length_of_the_block : checked_of (0x80 ∷ 0x91 ∷ 0x88 ∷ []) ≡ Payload 3 → ⊥
+length_of_the_block : checked_of (0x80 ∷ 0x91 ∷ 0x88 ∷ []) ≡ Ok 3 → ⊥
 unfolding checked_of crc16 check_sum remainder divide bits
 length_of_the_block e = let z : ◌≡◌ {A = ℕ} 1 3 = cc in omega arith
 

@@ -15,6 +15,10 @@ r1_frame r = octets 6 (sealed (0 ∷ 0 ∷ bits_of 6 r.index ++ bits_of 32 r.sta
 unfoldable pub r2_frame : R2 → List ℕ
 r2_frame r = 0x3F ∷ r.register
 
+-- "four OCR bytes with bit 31 set"
+abbrev pub ocr_bytes : ℕ → List ℕ
+ocr_bytes ocr = octets 4 (1 ∷ bits_of 31 ocr)
+
 -- "R3: 3F, four OCR bytes with bit 31 set, FF"
 unfoldable pub r3_frame : R3 → List ℕ
 r3_frame r = 0x3F ∷ octets 4 (1 ∷ bits_of 31 r.ocr) ++ (0xFF ∷ [])

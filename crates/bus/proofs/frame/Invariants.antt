@@ -3,7 +3,6 @@
 -- Assumes nothing.
 use mathlib.Core.List.{map}
 use mathlib.Core.Path.{◌≡◌}
-use Prim.Native.Nat.{◌≤◌, ◌-◌}
 use lib.ListN.{take}
 use Rattle.bus.proofs.Lists.{changed}
 use Rattle.bus.proofs.Telling.{after, frame}
@@ -13,12 +12,7 @@ use Rattle.bus.proofs.frame.Given as goal
 
 abbrev pub invariant-loop-i : goal.invariant-loop-i
 invariant-loop-i l =
-    (l.i ≤ l.end)
-    × (l.end ≡ count_of l.initial.next)
+    (l.end ≡ count_of l.initial.next)
     × (l.next.count ≡ l.initial.next.count)
     × (l.next.cards ≡ changed (after l.initial.next l.index l.argument) l.i l.initial.next.cards)
     × (l.heard ≡ heard_from quiet (map (frame l.initial.next l.index l.argument) (take l.i l.initial.next.cards)))
-    × (l.heard.length ≤ 17)
-
-abbrev pub decreases-loop-i : goal.decreases-loop-i
-decreases-loop-i l = l.end - l.i

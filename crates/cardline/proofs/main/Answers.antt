@@ -5,5 +5,5 @@ use Prim.Native.Nat.{ℕ}
 use Rattle.std.proofs.lemmas.List.{length-replicate}
 use Rattle.cardline.proofs.main.Goals as goal
 
-pub slice_bounds-run-end-2 : goal.slice_bounds-run-end-2
-slice_bounds-run-end-2 c = sym (length-replicate {A = ℕ} 528384 0)
+pub slice_bounds-fresh-end : goal.slice_bounds-fresh-end
+slice_bounds-fresh-end c = sym (length-replicate {A = ℕ} 528384 0)

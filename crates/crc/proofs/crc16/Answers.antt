@@ -8,13 +8,11 @@ use Rattle.crc.proofs.Fold.{turn}
 use Rattle.crc.proofs.Steps.{crc16_step}
 use Rattle.crc.proofs.crc16.Goals as goal
 
-pub loop-i-init : goal.loop-i-init
+pub loop-b-init : goal.loop-b-init
 unfolding crc16 check_sum remainder divide bits
-loop-i-init c = search rules
+loop-b-init c = search rules
 
-pub loop-i-preserved : goal.loop-i-preserved
-loop-i-preserved c = (
-  search rules,
-  turn crc16 (λ x b. bit_xor (crc16 (bit_xor (x / 256) b ∷ [])) (x % 256 * 256)) crc16_step c.args.bytes.now c.loop-i.i c.loop-i.sum c.step16-sum.result
-      (search rules) c.loop-i.invariant.1 c.step16-sum.ensures,
-)
+pub loop-b-preserved : goal.loop-b-preserved
+loop-b-preserved c =
+    turn crc16 (λ x b. bit_xor (crc16 (bit_xor (x / 256) b ∷ [])) (x % 256 * 256)) crc16_step c.args.bytes.now c.loop-b.b-index c.loop-b.sum c.step16-sum.result
+    (search rules) c.loop-b.invariant c.step16-sum.ensures

@@ -1,13 +1,11 @@
--- `crc::crc7` meets its contract. The loop's invariant: the sum is that of the bytes passed. A turn passes five bytes or one.
+-- `crc::crc7` meets its contract. The loop's invariant: the sum is that of the bytes before those that are left. A turn passes five bytes or one.
 -- Assumes nothing.
-use mathlib.Core.Path.{◌≡◌}
-use Prim.Native.Nat.{◌≤◌, ◌-◌}
-use lib.ListN.{length, take}
-use Rattle.crc.specs.Crc.{crc7}
+use lib.ListN.{length}
+use Rattle.crc.proofs.Left.{Summed}
 use Rattle.crc.proofs.crc7.Given as goal
 
-abbrev pub invariant-loop-i : goal.invariant-loop-i
-invariant-loop-i l = (l.i ≤ length l.bytes) × (l.sum ≡ crc7 (take l.i l.bytes))
+abbrev pub invariant-loop-rest : goal.invariant-loop-rest
+invariant-loop-rest l = Summed l.bytes l.rest l.sum
 
-abbrev pub decreases-loop-i : goal.decreases-loop-i
-decreases-loop-i l = length l.bytes - l.i
+abbrev pub decreases-loop-rest : goal.decreases-loop-rest
+decreases-loop-rest l = length l.rest

@@ -38,4 +38,4 @@ returns c =
     let long : length lock.password ≡ 16 = search rules in
     let all : i ≡ c.held-n.result = omega arith in
     by_first lock p i true long (all ∙ c.held-n.ensures.answer)
-    (ap (λ (b : List ℕ). same b (take i lock.password)) c.loop-i.invariant.1 ∙ same_itself (take i lock.password))
+    (ap (λ (b : List ℕ). same b (take i lock.password)) c.loop-i.invariant ∙ same_itself (take i lock.password))

@@ -2,6 +2,7 @@
 -- Assumes nothing.
 use mathlib.Core.Path.{◌≡◌, sym, ap, ◌∙◌}
 use mathlib.Core.Bool.{Bool}
+use mathlib.Core.Logic.{inl, inr}
 use Prim.Native.Nat.{ℕ}
 use Rattle.card_record.specs.declared.Link.{Link}
 use Rattle.card_record.specs.declared.Mode.{Mode}
@@ -25,24 +26,21 @@ decided mode selected link met index argument {found = found} e em =
 pub returns-in-Ignored : goal.returns-in-Ignored
 returns-in-Ignored c = record {
   answer = let a = c.args in
-      c.unheard.ensures ∙ decided a.mode a.selected a.link a.met a.index a.argument c.decide-decided.ensures c.in-Ignored.is;
-}
-
-pub returns-in-Silent : goal.returns-in-Silent
-returns-in-Silent c = record {
-  answer = let a = c.args in
-      c.unheard-in-Silent.ensures ∙ decided a.mode a.selected a.link a.met a.index a.argument c.decide-decided.ensures c.in-Silent.is;
+      c.unheard.ensures ∙ elim c.in-Ignored.is [
+        | inl e ↦ decided a.mode a.selected a.link a.met a.command.index a.command.argument c.decide-decided.ensures e
+        | inr e ↦ decided a.mode a.selected a.link a.met a.command.index a.command.argument c.decide-decided.ensures e
+      ];
 }
 
 pub returns-in-Illegal : goal.returns-in-Illegal
 returns-in-Illegal c = record {
   answer = let a = c.args in
       simp (c.untaken.ensures, c.set-errors.ensures.answer, c.as_spi-spi.ensures)
-      (decided a.mode a.selected a.link a.met a.index a.argument c.decide-decided.ensures c.in-Illegal.is);
+      (decided a.mode a.selected a.link a.met a.command.index a.command.argument c.decide-decided.ensures c.in-Illegal.is);
 }
 
 pub returns-in-To : goal.returns-in-To
 returns-in-To c = record {
   answer = let a = c.args in
-      c.take.ensures ∙ decided a.mode a.selected a.link a.met a.index a.argument c.decide-decided.ensures c.in-To.is;
+      c.take.ensures ∙ decided a.mode a.selected a.link a.met a.command.index a.command.argument c.decide-decided.ensures c.in-To.is;
 }

@@ -2,14 +2,12 @@
 -- the loop's first or from its end on is tagged, so the run over them changes nothing.
 -- Assumes nothing.
 use mathlib.Core.Path.{◌≡◌}
-use Prim.Native.Nat.{◌-◌, ◌≤◌}
 use lib.ListN.{length}
 use Rattle.store.specs.Erase.{erased_to, spared_to}
 use Rattle.store.proofs.erase.Given as goal
 
 abbrev pub invariant-loop-sector : goal.invariant-loop-sector
 invariant-loop-sector l =
-    (l.sector ≤ l.sectors) × (length l.memory ≡ length l.initial.memory) × (l.spared ≡ spared_to l.map l.tags l.whole l.sector) × (l.memory ≡ erased_to l.map l.tags l.whole l.sector l.initial.memory)
-
-abbrev pub decreases-loop-sector : goal.decreases-loop-sector
-decreases-loop-sector l = l.end - l.sector
+    (length l.memory ≡ length l.initial.memory)
+    × (l.spared ≡ spared_to l.map l.tags l.whole l.sector)
+    × (l.memory ≡ erased_to l.map l.tags l.whole l.sector l.initial.memory)

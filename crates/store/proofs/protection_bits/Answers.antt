@@ -1,13 +1,7 @@
 use Prim.Native.Nat.{◌+◌, ◌-◌}
 use native.Mathlib.Omega.{arith}
-use borrow.Author.Rules.{rules}
-use Rattle.store.specs.Map.{bits_from}
 use Rattle.store.proofs.Bits.{bit_small, bits_half, bits_all}
 use Rattle.store.proofs.protection_bits.Goals as goal
-
-pub loop-i-init : goal.loop-i-init
-unfolding bits_from
-loop-i-init c = search rules
 
 pub overflow_mul-bits : goal.overflow_mul-bits
 overflow_mul-bits c =
@@ -21,13 +15,9 @@ overflow_add-bits c =
     let l = c.loop-i in
     omega (arith, bits_half a.map.now (a.group + l.i) (32 - l.i) (omega arith), bit_small a.map.now (a.group + (l.i - 1)))
 
-pub loop-i-preserved : goal.loop-i-preserved
-unfolding bits_from
-loop-i-preserved c = search rules
-
 pub returns : goal.returns
 returns c = record {
   answer = let a = c.args in
       let l = c.loop-i in
-      bits_all a.map.now a.group l.i l.bits (omega arith) l.invariant.1;
+      bits_all a.map.now a.group l.i l.bits (omega arith) l.invariant;
 }

@@ -1,20 +1,28 @@
 -- `store::write_sector` meets its contract: the first 512 bytes stand over the sector, or there are fewer, or the memory has no such sector.
 -- Assumes nothing.
+use mathlib.Core.Path.{sym, ap, ◌∙◌}
+use mathlib.Core.List.{List, ◌++◌}
+use Prim.Native.Nat.{ℕ, ◌*◌, ◌+◌}
 use native.Mathlib.Omega.{arith}
-use borrow.Author.Rules.{rules}
-use borrow.Author.Tests.{le-ltb, le-leb}
+use borrow.Author.Tests.{lt-ltb, le-leb}
+use lib.ListN.{take, drop, length-take, length-drop}
+use lib.Seq.{take-take, length-take-le}
+use Rattle.std.proofs.lemmas.Slice.{put_mid-paste}
 use Rattle.store.specs.Memory.{sector_written}
-use Rattle.std.proofs.lemmas.Grind.{common_steps}
 use Rattle.store.proofs.write_sector.Goals as goal
 
-pub returns-then-bytes-lt-SECTOR : goal.returns-then-bytes-lt-SECTOR
-unfolding sector_written
-returns-then-bytes-lt-SECTOR c = search rules
+pub copy_from_slice-requires : goal.copy_from_slice-requires
+copy_from_slice-requires c = simp (length-take, length-drop) (omega arith)
 
 pub returns-then-number-memory : goal.returns-then-number-memory
 unfolding sector_written
-returns-then-number-memory c = grind (arith, common_steps)
-
-pub returns-else-number-memory : goal.returns-else-number-memory
-unfolding sector_written
-returns-else-number-memory c = record { memory = simp (le-leb _ _ c.if-bytes-lt-SECTOR.false, le-ltb _ _ c.if-number-memory.false) }
+returns-then-number-memory c =
+    let m = c.args.memory.now in
+    let s = c.args.bytes.now in
+    let at = c.args.sector * 512 in
+    let long = length-take-le 512 s c.if-bytes-lt-SECTOR.false in
+    record {
+      memory = simp (le-leb 512 _ c.if-bytes-lt-SECTOR.false, lt-ltb c.args.sector _ c.if-number-memory.true)
+          (put_mid-paste at _ m _ (take 512 s) 512 c.copy_from_slice.ensures.after (omega arith) (sym long)
+          ∙ ap (λ (x : List ℕ). take at m ++ x ++ drop (at + 512) m) (take-take 512 512 s (omega arith)));
+    }

@@ -3,6 +3,7 @@
 use mathlib.Core.Path.{sym}
 use Prim.Native.Nat.{◌*◌}
 use native.Mathlib.Omega.{arith}
+use borrow.Author.Rules.{rules}
 use lib.ListN.{length}
 use Rattle.base.proofs.Output.{short, written}
 use Rattle.text.proofs.Pairs.{long}
@@ -17,6 +18,8 @@ returns-then-out-bytes-clause-answer c =
 pub returns : goal.returns
 returns c =
     let s = c.args.bytes.now in
-    let w = put_whole (omega (arith, long s)) c.hex.ensures in
+    let w = put_whole (omega (arith, long s)) c.hex.ensures.put in
     let all = written (hex_of s) c.args.out.now _ (sym (wrote_line w)) _ (omega (arith, long s, wrote_line w)) (wrote_at w) in
-    record { answer = all.0; output = all.1 }
+    let answer = all.0 in
+    let output = all.1 in
+    record { answer = answer; output = search (rules, output) }

@@ -1,17 +1,13 @@
 -- `wire::read_frame` meets its contract: `checked` goes by the cases of the framing, as the code does.
 -- Assumes nothing.
-use borrow.Author.Rules.{rules}
-use Rattle.wire.specs.Frames.{frame_of}
+use mathlib.Core.Path.{sym, ap, ◌∙◌}
+use Rattle.std.proofs.lemmas.Result.{err_from_is_err_and}
+use Rattle.std.specs.Prelude.{Err}
+use Rattle.wire.specs.Frames.{checked, frame_of}
 use Rattle.wire.proofs.read_frame.Goals as goal
 
-pub returns-then-crc_right : goal.returns-then-crc_right
+pub returns-in_err-fields : goal.returns-in_err-fields
 unfolding frame_of
-returns-then-crc_right c = search rules
-
-pub returns-else-crc_right : goal.returns-else-crc_right
-unfolding frame_of
-returns-else-crc_right c = search rules
-
-pub returns-in-Unframed : goal.returns-in-Unframed
-unfolding frame_of
-returns-in-Unframed c = search rules
+returns-in_err-fields c =
+    let p = err_from_is_err_and c.from_residual.result c.from_residual.ensures.1 in
+    record { answer = p.1 ∙ ap Err p.2 ∙ ap checked (sym c.in_err-fields.was ∙ c.unframe.ensures.answer) }

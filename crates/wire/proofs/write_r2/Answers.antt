@@ -1,15 +1,13 @@
 -- `wire::write_r2` meets its contract: the register copied behind the first byte.
 -- Assumes nothing.
-use mathlib.Core.Path.{◌≡◌, ap, ◌∙◌}
+use mathlib.Core.Path.{◌≡◌, ap}
 use mathlib.Core.List.{List, [], ◌∷◌, ◌++◌}
 use Prim.Native.Nat.{ℕ, suc, ◌≤◌}
 use native.Mathlib.Omega.{arith}
 use borrow.Author.Rules.{rules}
+use borrow.Rule.Slice.PartMut.{put_mid}
 use lib.ListN.{length, drop, set}
-use lib.Seq.{paste, take_all}
-use Rattle.base.proofs.Copying.{copied_whole}
 use Rattle.base.proofs.Output.{short, written}
-use Rattle.base.specs.Output.{copied}
 use Rattle.wire.specs.Responses.{r2_frame}
 use Rattle.wire.specs.declared.R2.{R2}
 use Rattle.wire.proofs.write_r2.Goals as goal
@@ -19,13 +17,10 @@ unfolding r2_frame
 long v n = ap suc n
 
 -- a whole register behind the first byte
-stored : (v : R2) (o : List ℕ) → 17 ≤ length o → length v.register ≡ 16 → copied v.register (set o 0 63) 1 ≡ r2_frame v ++ drop 17 o
+stored : (v : R2) (o s : List ℕ) → 17 ≤ length o → s ≡ v.register → put_mid 1 16 (set o 0 63) s ≡ r2_frame v ++ drop 17 o
 unfolding r2_frame
-stored v [] h n = absurd (omega arith)
-stored v (x ∷ o) h n =
-    copied_whole v.register (63 ∷ o) 1 (omega arith)
-    ∙ ap (paste (63 ∷ o) 1 v.register) n
-    ∙ ap (λ (l : List ℕ). (63 ∷ l) ++ drop 16 o) (take_all 16 v.register (omega arith))
+stored v [] s h e = absurd (omega arith)
+stored v (x ∷ o) s h e = ap (λ (l : List ℕ). (63 ∷ l) ++ drop 16 o) e
 
 pub returns-then-out-lt17-clause-answer : goal.returns-then-out-lt17-clause-answer
 returns-then-out-lt17-clause-answer c =
@@ -38,5 +33,5 @@ returns c =
     let o = c.args.out.now in
     let n : length r2.register ≡ 16 = search rules in
     let h = c.if-out-lt17.false in
-    let w = written (r2_frame r2) o 17 (long r2 n) _ h (c.copy.ensures.over ∙ stored r2 o h n) in
+    let w = written (r2_frame r2) o 17 (long r2 n) _ h (stored r2 o _ h c.copy_from_slice.ensures.after) in
     record { answer = w.0; output = w.1 }

@@ -1,4 +1,4 @@
--- `bus::contest::is_ready` meets its contract: not in SPI, and Ready is state 1; and what the type of a card says of its CID.
+-- `bus::contest::is_ready` meets its contract: not in SPI, and Ready; and what the type of a card says of its CID.
 -- Assumes nothing.
 use borrow.Author.Rules.{rules}
 use Rattle.bus.proofs.Lists.{bytes_held}
@@ -10,8 +10,11 @@ use Rattle.bus.proofs.contest.is_ready.Goals.{Start}
 held : (s : Start) → Held s.args.card
 held s = bytes_held (cid_of s.args.card) 16 (search rules) (λ i. search rules)
 
-pub returns-then-card-clause-bytes : goal.returns-then-card-clause-bytes
-returns-then-card-clause-bytes c = held c.before
+pub returns-in-Ready-clause-bytes : goal.returns-in-Ready-clause-bytes
+returns-in-Ready-clause-bytes c = held c.before.before.before
 
-pub returns-clause-bytes : goal.returns-clause-bytes
-returns-clause-bytes c = held c.before.before.before.before
+pub returns-in_default-clause-bytes : goal.returns-in_default-clause-bytes
+returns-in_default-clause-bytes c = held c.before.before.before
+
+pub returns-else-not-card-clause-bytes : goal.returns-else-not-card-clause-bytes
+returns-else-not-card-clause-bytes c = held c.before.before

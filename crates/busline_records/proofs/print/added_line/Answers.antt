@@ -3,8 +3,8 @@
 use Rattle.busline_records.proofs.Lines.{card_line, refusal_line_lem}
 use Rattle.busline_records.proofs.print.added_line.Goals as goal
 
-pub returns-in-Place : goal.returns-in-Place
-returns-in-Place c = rw c.in-Place.is (card_line _ c.named.ensures)
+pub returns-in-Ok : goal.returns-in-Ok
+returns-in-Ok c = rw c.in-Ok.is (card_line _ c.named.ensures)
 
-pub returns-in-Refused : goal.returns-in-Refused
-returns-in-Refused c = rw c.in-Refused.is (refusal_line_lem c.in-Refused.why c.refused_by.ensures)
+pub returns-in-Err : goal.returns-in-Err
+returns-in-Err c = rw c.in-Err.is (refusal_line_lem c.in-Err.why c.refused_by.ensures)

@@ -6,15 +6,14 @@ use borrow.Author.Rules.{rules}
 use Rattle.busline_records.proofs.Lines.{silent_line, sent_line_lem}
 use Rattle.busline_records.proofs.print.shown_line.Goals as goal
 
-pub returns-in-Line : goal.returns-in-Line
+pub returns-in-Some : goal.returns-in-Some
 unfolding shown_text
-returns-in-Line c = rw (c.in-Line.is, ← c.part-bytes.ensures.part)
-    (sent_line_lem _ _ (omega (arith, c.part-bytes.ensures.within.1)) c.say.ensures)
+returns-in-Some c = rw (c.in-Ok.is, c.in-Some.is, ← c.part.ensures.part) (sent_line_lem _ _ (omega (arith, c.part.ensures.within.1)) c.say.ensures)
 
-pub returns-in-Silent : goal.returns-in-Silent
+pub returns-in-None : goal.returns-in-None
 unfolding shown_text
-returns-in-Silent c = rw c.in-Silent.is (silent_line _ c.say-in-Silent.ensures)
+returns-in-None c = rw (c.in-Ok.is, c.in-None.is) (silent_line _ c.say-in-None.ensures)
 
-pub returns-in-Refused : goal.returns-in-Refused
+pub returns-in-Err : goal.returns-in-Err
 unfolding shown_text
-returns-in-Refused c = search rules
+returns-in-Err c = search rules

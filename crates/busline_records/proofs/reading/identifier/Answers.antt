@@ -11,6 +11,6 @@ use Rattle.busline_records.proofs.reading.identifier.Goals as goal
 
 pub returns : goal.returns
 returns c = record {
-  answer = closed (cid_body c.args.script.now) _ _ _ (c.«copy».ensures.over ∙ ap (λ (l : List ℕ). copied l (replicate 15 0) 0) c.part-given.ensures.part) c.copy-2.ensures.over
-      c.last_byte-last.ensures.answer;
+  answer = closed (cid_body c.args.script.now) _ _ _ (c.«copy».ensures.over ∙ ap (λ (l : List ℕ). copied l (replicate 15 0) 0) c.part.ensures.part) c.copy-2.ensures.over
+      c.last_byte.ensures.answer;
 }

@@ -1,6 +1,6 @@
 -- `card_blocks::blocks_in::store` meets its contract: each arm does what its callees ensure. A sector takes 512 bytes of a block, which are those kept.
 -- Assumes nothing.
-use mathlib.Core.Path.{◌≡◌, sym, ap, ap₂, ◌∙◌}
+use mathlib.Core.Path.{◌≡◌, refl, sym, ap, ap₂, ◌∙◌}
 use mathlib.Core.Bool.{Bool, ◌&&◌}
 use mathlib.Core.List.{List, ◌++◌}
 use Prim.Native.Nat.{ℕ, ◌+◌, ◌*◌, ◌≤◌, ◌<◌}
@@ -29,10 +29,18 @@ short_left m block sector h =
 pub returns-then-block-ge-SECTOR_LENGTH : goal.returns-then-block-ge-SECTOR_LENGTH
 returns-then-block-ge-SECTOR_LENGTH c = let a = c.args in
     let long : 512 ≤ length a.block.now = c.if-block-ge-SECTOR_LENGTH.true in
-    simp (c.write_sector.ensures.memory, c.kept-bytes.ensures, c.in-Sector.is)
-    (ap (λ (x : List ℕ). lent_of x a.map.now) (kept_written a.memory.now a.block.now _ long))
+    record {
+      memory = refl;
+      map = refl;
+      holds = simp (c.write_sector.ensures.memory, c.kept-bytes.ensures, c.in-Sector.is)
+          (ap (λ (x : List ℕ). lent_of x a.lent.now.map.now) (kept_written a.lent.now.memory.now a.block.now _ long));
+    }
 
 pub returns-else-block-ge-SECTOR_LENGTH : goal.returns-else-block-ge-SECTOR_LENGTH
 returns-else-block-ge-SECTOR_LENGTH c = let a = c.args in
-    simp c.in-Sector.is
-    (ap (λ (x : List ℕ). lent_of x a.map.now) (short_left a.memory.now a.block.now _ c.if-block-ge-SECTOR_LENGTH.false))
+    record {
+      memory = refl;
+      map = refl;
+      holds = simp c.in-Sector.is
+          (ap (λ (x : List ℕ). lent_of x a.lent.now.map.now) (short_left a.lent.now.memory.now a.block.now _ c.if-block-ge-SECTOR_LENGTH.false));
+    }

@@ -11,6 +11,7 @@ use Rattle.store.specs.Lent.{lent_of}
 use Rattle.card_blocks.specs.BlockOut.{block_for, block_laid, sent_whole, sent_out}
 use Rattle.card_blocks.specs.Framing.{beside, start_byte}
 use Rattle.card_blocks.proofs.Laying.{unlaid, start_stored, start_left}
+use Rattle.card_blocks.proofs.blocks_out.send.Goals.{else-sent-via-then-sent+else-card, else-sent-via-else-sent}
 use Rattle.card_blocks.proofs.blocks_out.send.Goals as goal
 
 -- an output that has no room for a start byte
@@ -63,27 +64,22 @@ returns-then-out-before c = let a = c.args in
     let block = block_for a.card.registers (lent_of a.memory.now a.map.now) a.sending in
     sym (short a.card.mode.spi block a.out.now (simp (← c.beside-before.ensures) c.if-out-before.true))
 
-pub returns-then-not-sent : goal.returns-then-not-sent
-unfolding sent_out
-returns-then-not-sent c = let a = c.args in
-    let block = block_for a.card.registers (lent_of a.memory.now a.map.now) a.sending in
-    let s = c.send_block-sent in
-    unsent block a.out.now s.new.out _ s.result c.if-out-before.false s.ensures.answer s.ensures.output a.card.mode.spi
-    (ap (λ (m : ℕ). m - 2) c.beside-before.ensures) (c.if-not-sent.true)
-
 pub returns-then-card : goal.returns-then-card
 unfolding sent_out
 returns-then-card c = let a = c.args in
     let block = block_for a.card.registers (lent_of a.memory.now a.map.now) a.sending in
     let s = c.send_block-sent in
     sent block a.out.now s.new.out _ s.result c.if-out-before.false s.ensures.answer s.ensures.output a.card.mode.spi
-    (ap (λ (m : ℕ). m - 2) c.beside-before.ensures) (c.if-not-sent.false) c.if-card.true
+    (ap (λ (m : ℕ). m - 2) c.beside-before.ensures) c.if-sent.true c.if-card.true
 
-pub returns-else-card : goal.returns-else-card
+pub returns-else-sent : goal.returns-else-sent
 unfolding sent_out
-returns-else-card c =
+returns-else-sent c =
     let a = c.args in
     let block = block_for a.card.registers (lent_of a.memory.now a.map.now) a.sending in
     let s = c.send_block-sent in
-    plain block a.out.now s.new.out _ s.result c.if-out-before.false s.ensures.answer s.ensures.output a.card.mode.spi
-    (ap (λ (m : ℕ). m - 2) c.beside-before.ensures) c.if-card.false
+    let before = ap (λ (m : ℕ). m - 2) c.beside-before.ensures in
+    elim c.else-sent.branch [
+      | else-sent-via-else-sent w ↦ unsent block a.out.now s.new.out _ s.result c.if-out-before.false s.ensures.answer s.ensures.output a.card.mode.spi before w.if-sent.false
+      | else-sent-via-then-sent+else-card w ↦ plain block a.out.now s.new.out _ s.result c.if-out-before.false s.ensures.answer s.ensures.output a.card.mode.spi before w.if-card.false
+    ]

@@ -4,60 +4,33 @@ use mathlib.Core.Path.{◌≡◌, refl, sym, ap, ◌∙◌}
 use mathlib.Core.Bool.{Bool, true, false, not, ◌&&◌, ◌||◌}
 use mathlib.Core.List.{List}
 use Prim.Native.Nat.{ℕ, ◌-◌, ◌≤◌}
-use native.Mathlib.Omega.{arith}
-use borrow.Author.Tests.{le-leb, eq-eqb, not-false}
+use borrow.Author.Tests.{le-leb}
 use lib.Dec.{eqb}
 use lib.ListN.{length}
-use Rattle.base.proofs.Cases.{cases}
-use Rattle.base.specs.declared.Refusal.{Refusal}
+use Rattle.base.proofs.Cases.{kept_by}
+use Rattle.base.specs.Refusals.{by}
 use Rattle.crc.specs.Crc.{crc16}
-use Rattle.wire.proofs.BlockTheorems.{good}
 use Rattle.wire.specs.Blocks.{crc_in, payload_of, checked_of}
-use Rattle.wire.specs.declared.Checked.{Checked}
-use Rattle.wire.specs.declared.Checked.TheVariants.{Payload, Refused}
 use Rattle.card_blocks.proofs.framing.crc_right.Goals as goal
-use Rattle.card_blocks.proofs.framing.crc_right.Goals.{then-mode+else-not-mode, else-mode}
+use Rattle.card_blocks.proofs.framing.crc_right.Goals.{then-mode, else-mode}
+use Rattle.std.specs.Prelude.{is_ok}
 
-no_refusal : (r : Refusal) (n : ℕ) → ◌≡◌ {A = Checked} (Refused r) (Payload n) → ⊥
-no_refusal r n e = let z : ◌≡◌ {A = ℕ} 0 1 = cc in omega arith
-
--- a block that checks has the right CRC16
-right : (b : List ℕ) {n : ℕ} → checked_of b ≡ Payload n → eqb (crc_in b) (crc16 (payload_of b)) ≡ true
-right b {n} e = eq-eqb (crc_in b) (crc16 (payload_of b)) (good b n e).crc
-
--- one of a block's length that does not check has a wrong one: it is refused by 17 alone
-wrong : (b : List ℕ) {r : Refusal} → 3 ≤ length b → length b ≤ 2050 → checked_of b ≡ Refused r → eqb (crc_in b) (crc16 (payload_of b)) ≡ false
+-- a block of its length is refused by 17 alone, where its CRC16 is wrong
+checks : (b : List ℕ) → 3 ≤ length b → length b ≤ 2050 → is_ok (checked_of b) ≡ eqb (crc_in b) (crc16 (payload_of b))
 unfolding checked_of
-wrong b {r} lo hi e =
-    cases (eqb (crc_in b) (crc16 (payload_of b)))
-    (λ (t : eqb (crc_in b) (crc16 (payload_of b)) ≡ true).
-    absurd (no_refusal r (length b - 2) (sym e ∙ simp (le-leb 3 (length b) lo, le-leb (length b) 2050 hi, t))))
-    (λ (t : eqb (crc_in b) (crc16 (payload_of b)) ≡ false). t)
+checks b lo hi = rw (le-leb 3 (length b) lo, le-leb (length b) 2050 hi) (kept_by (by 17) (length b - 2) (eqb (crc_in b) (crc16 (payload_of b))))
 
--- a test that is joined to others by `||`
-passes : (unlooked : Bool) {t : Bool} → t ≡ true → true ≡ (unlooked || t)
-passes true e = refl
-passes false e = sym e
+off : (spi : Bool) → (spi && false) ≡ false
+off true = refl
+off false = refl
 
-fails : {unlooked t : Bool} → unlooked ≡ false → t ≡ false → false ≡ (unlooked || t)
-fails {unlooked} {t} u e = sym (ap (λ (x : Bool). x || t) u ∙ e)
-
--- with checking on, in SPI, it is looked at
-looked : (spi checks : Bool) → checks ≡ true → (spi && not checks) ≡ false
-looked true checks e = ap not e
-looked false checks e = refl
-
-pub returns-in-Payload : goal.returns-in-Payload
-returns-in-Payload c =
-    let a = c.args in
-    passes (a.mode.spi && not a.mode.checks) (right a.block.now (sym c.check_block-checked.ensures.answer ∙ c.in-Payload.is))
-
-pub returns-in-Refused : goal.returns-in-Refused
-returns-in-Refused c =
-    let a = c.args in
-    let seen : (a.mode.spi && not a.mode.checks) ≡ false =
+pub returns-else-not-mode : goal.returns-else-not-mode
+returns-else-not-mode c =
+    let mode = c.args.mode in
+    let looked : (mode.spi && not mode.checks) ≡ false =
     elim c.if-mode.branch [
-      | then-mode+else-not-mode w ↦ looked a.mode.spi a.mode.checks (not-false a.mode.checks w.if-not-mode.false)
-      | else-mode w ↦ ap (λ (x : Bool). x && not a.mode.checks) w.if-mode.false
+      | then-mode w ↦ ap (λ (x : Bool). mode.spi && x) (sym w.value-is ∙ c.if-not-mode.false) ∙ off mode.spi
+      | else-mode w ↦ ap (λ (x : Bool). x && not mode.checks) w.if-mode.false
     ] in
-    fails seen (wrong a.block.now c.requires.0 c.requires.1 (sym c.check_block-checked.ensures.answer ∙ c.in-Refused.is))
+    c.is_ok.ensures.value ∙ ap is_ok c.check_block.ensures.answer ∙ checks c.args.block.now c.requires.0 c.requires.1
+    ∙ sym (ap (λ (x : Bool). x || eqb (crc_in c.args.block.now) (crc16 (payload_of c.args.block.now))) looked)

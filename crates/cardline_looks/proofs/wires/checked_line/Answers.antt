@@ -6,7 +6,7 @@ use Rattle.text.proofs.Lengths.{word_short}
 use Rattle.cardline_looks.specs.Words.{good_word}
 use Rattle.cardline_looks.proofs.wires.checked_line.Goals as goal
 
-pub returns-in-Payload : goal.returns-in-Payload
-returns-in-Payload c =
+pub returns-in-Ok : goal.returns-in-Ok
+returns-in-Ok c =
     let a = c.args in
-    rw c.in-Payload.is (record { put = c.say.ensures; short = omega (arith, word_short a.count good_word []) })
+    rw c.in-Ok.is (record { put = c.say.ensures; short = omega (arith, word_short a.count good_word []) })

@@ -4,8 +4,8 @@ use native.Mathlib.Omega.{arith}
 use Rattle.text.proofs.Lengths.{word_short}
 use Rattle.cardline_looks.proofs.wires.written_line.Goals as goal
 
-pub returns-in-Bytes : goal.returns-in-Bytes
-returns-in-Bytes c =
+pub returns-in-Ok : goal.returns-in-Ok
+returns-in-Ok c =
     let a = c.args in
-    rw c.in-Bytes.is
+    rw c.in-Ok.is
     (record { put = c.say.ensures; short = omega (arith, word_short a.count a.word.now a.output.now) })

@@ -1,17 +1,21 @@
 -- `cardline_records::answers::beside` meets its contract: each return is told its test.
 -- Assumes nothing.
-use borrow.Author.Rules.{rules}
-use borrow.Author.Tests.{ne_eqb}
+use mathlib.Core.Path.{◌≡◌, sym, ◌∙◌}
+use mathlib.Core.Bool.{true, false}
+use lib.Dec.{eqb}
+use lib.ListN.{length}
 use Rattle.cardline_records.specs.Calls.{beside_text}
-use Rattle.text.proofs.Writing.{put_both}
+use Rattle.text.proofs.Pages.{writes_both}
 use Rattle.cardline_records.proofs.answers.beside.Goals as goal
 
-pub returns-then-bytes-eq0 : goal.returns-then-bytes-eq0
+pub returns-then-is_empty : goal.returns-then-is_empty
 unfolding beside_text
-returns-then-bytes-eq0 c = search rules
+returns-then-is_empty c =
+    let none : eqb (length c.args.bytes.now) 0 ≡ true = sym c.is_empty.ensures ∙ c.if-is_empty.true in
+    rw none c.put.ensures
 
 pub returns : goal.returns
 unfolding beside_text
 returns c =
-    rw (ne_eqb _ _ c.if-bytes-eq0.false)
-    (put_both (put_both c.put-a.ensures c.put-b.ensures) c.ending.ensures)
+    let some : eqb (length c.args.bytes.now) 0 ≡ false = sym c.is_empty.ensures ∙ c.if-is_empty.false in
+    rw some (writes_both (writes_both c.put-2.ensures c.put-3.ensures) c.ending.ensures)

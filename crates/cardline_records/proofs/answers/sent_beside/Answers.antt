@@ -5,21 +5,21 @@ use borrow.Author.Rules.{rules}
 use lib.ListN.{replicate}
 use Rattle.cardline_records.proofs.Sending.{sent_beside_lem}
 use Rattle.cardline_records.specs.Calls.{beside_bytes, beside_text}
-use Rattle.text.proofs.Writing.{put_as}
+use Rattle.text.proofs.Pages.{writes_as}
 use Rattle.cardline_records.proofs.answers.sent_beside.Goals as goal
 
-pub returns-in-Bytes : goal.returns-in-Bytes
+pub returns-in-Ok : goal.returns-in-Ok
 unfolding beside_bytes
-returns-in-Bytes c =
+returns-in-Ok c =
     let d = c.write_sent-written in
     let a = c.args in
-    put_as
+    writes_as
     (ap (beside_text a.word.now)
     (c.part.ensures.part
-    ∙ sent_beside_lem a.registers a.sent (replicate 17 0) d.new.out d.result d.ensures.answer c.in-Bytes.n
-    c.in-Bytes.is d.ensures.output))
+    ∙ sent_beside_lem a.registers a.sent (replicate 17 0) d.new.out d.result d.ensures.answer c.in-Ok.n
+    c.in-Ok.is d.ensures.output))
     c.beside.ensures
 
-pub returns-in-Refused : goal.returns-in-Refused
+pub returns-in-Err : goal.returns-in-Err
 unfolding beside_bytes
-returns-in-Refused c = search rules
+returns-in-Err c = search rules

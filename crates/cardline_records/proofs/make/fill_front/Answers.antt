@@ -6,4 +6,4 @@ use Rattle.cardline_records.proofs.make.fill_front.Goals as goal
 pub returns : goal.returns
 returns c =
     let a = c.args in
-    filled_is a.memory.now c.fill.new.bytes a.n c.least-k.result a.value c.least-k.ensures.answer c.fill.ensures.bytes
+    filled_is a.memory.now c.fill.new.bytes a.n c.min-k.result a.value c.min-k.ensures c.fill.ensures.bytes

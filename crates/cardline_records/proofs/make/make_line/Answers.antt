@@ -8,12 +8,12 @@ use Rattle.cardline_records.specs.Words.{made_word}
 use Rattle.text.proofs.Lengths.{refusal_short}
 use Rattle.cardline_records.proofs.make.make_line.Goals as goal
 
-pub returns-in-Done : goal.returns-in-Done
-returns-in-Done c =
+pub returns-in-Ok : goal.returns-in-Ok
+returns-in-Ok c =
     let short : length made_word ≤ 20 = omega arith in
-    rw c.in-Done.is (plain_line_lem made_word short c.plain.ensures)
+    rw c.in-Ok.is (plain_line_lem made_word short c.plain.ensures)
 
-pub returns-in-Refused : goal.returns-in-Refused
-returns-in-Refused c =
-    rw c.in-Refused.is
-    (record { put = c.refused_by.ensures; short = omega (arith, refusal_short c.in-Refused.refusal) })
+pub returns-in-Err : goal.returns-in-Err
+returns-in-Err c =
+    rw c.in-Err.is
+    (record { put = c.refused_by.ensures; short = omega (arith, refusal_short c.in-Err.refusal) })

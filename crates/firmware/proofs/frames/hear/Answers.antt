@@ -1,6 +1,6 @@
 -- `firmware::frames::hear` meets its contract: the card's call, between a link and a mode taken in and told, and its answer written.
 -- Assumes nothing.
-use mathlib.Core.Path.{ap, ◌∙◌}
+use mathlib.Core.Path.{sym, ap, ◌∙◌}
 use mathlib.Core.List.{List}
 use Prim.Native.Nat.{ℕ}
 use Rattle.crossing.specs.Record.{registers_of}
@@ -31,6 +31,6 @@ returns c =
         simp (told.numbers, heard.answer, mode, link, met, whole),
         (simp (told.crossing.0, heard.answer, mode, link, met, whole), simp (told.crossing.1, heard.answer, mode, link, met, whole)),
       );
-      lent = simp (heard.lent, mode, link, met, whole);
+      lent = simp (c.memory-1.given.1.1 (sym heard.lent.memory), c.map-1.given.1.1 (sym heard.lent.map), heard.lent.holds, mode, link, met, whole);
       sent = simp (c.send.ensures.output, registers, heard.answer, mode, link, met, whole);
     }

@@ -11,16 +11,16 @@ use Rattle.firmware.proofs.Sends.{framed_index}
 use Rattle.firmware.proofs.frames.mmc_parts_frame.Goals as goal
 
 -- 12
-pub returns-in-Refused : goal.returns-in-Refused
+pub returns-in-Err : goal.returns-in-Err
 unfolding frame_stepped
-returns-in-Refused c =
+returns-in-Err c =
     let a = c.args in
     let numbers = a.numbers.now in
     let cid = a.cid.now in
     let csd = a.csd.now in
     let password = a.password.now in
     let lent = lent_of a.memory.now a.map.now in
-    let lending = lent_by numbers cid csd password lent _ _ _ c.groups_of.ensures.answer c.lent_check-lending.ensures.answer c.in-Refused.is in
+    let lending = lent_by numbers cid csd password lent _ _ _ c.groups_of.ensures.answer c.lent_check-lending.ensures.answer c.in-Err.is in
     let left =
     frame_unlent numbers cid csd password (won_by a.won) (selected_by a.selected) a.frame.now lent _ _ a.answer.now lending c.number.ensures.answer
     in
@@ -36,9 +36,9 @@ returns-then-not-crc_passes c =
     let csd = a.csd.now in
     let password = a.password.now in
     let lent = lent_of a.memory.now a.map.now in
-    let lending = lent_by numbers cid csd password lent _ _ _ c.groups_of.ensures.answer c.lent_check-lending.ensures.answer c.in-Right.is in
-    let read = c.in-Framed in
-    let framing = sym c.unframe-framing.ensures.answer ∙ read.is in
+    let lending = lent_by numbers cid csd password lent _ _ _ c.groups_of.ensures.answer c.lent_check-lending.ensures.answer c.in-Ok.is in
+    let read = c.in-Ok-framing.field-0 in
+    let framing = sym c.unframe-framing.ensures.answer ∙ c.in-Ok-framing.is in
     let judged = c.crc_passes.ensures.answer ∙ ap (λ (mode : Mode). crc_passes mode read.index read.crc_right) c.mode_of.ensures.answer in
     let told = c.tell_damaged.ensures in
     let left =
@@ -48,7 +48,7 @@ returns-then-not-crc_passes c =
     record { answer = left.0; numbers = left.1.0; lent = left.1.1.0; sent = left.1.1.1 }
 
 pub hear-requires : goal.hear-requires
-hear-requires c = framed_index _ _ _ _ (sym c.unframe-framing.ensures.answer ∙ c.in-Framed.is)
+hear-requires c = framed_index _ _ _ _ (sym c.unframe-framing.ensures.answer ∙ c.in-Ok-framing.is)
 
 -- a command
 pub returns-else-not-crc_passes : goal.returns-else-not-crc_passes
@@ -60,9 +60,9 @@ returns-else-not-crc_passes c =
     let csd = a.csd.now in
     let password = a.password.now in
     let lent = lent_of a.memory.now a.map.now in
-    let lending = lent_by numbers cid csd password lent _ _ _ c.groups_of.ensures.answer c.lent_check-lending.ensures.answer c.in-Right.is in
-    let read = c.in-Framed in
-    let framing = sym c.unframe-framing.ensures.answer ∙ read.is in
+    let lending = lent_by numbers cid csd password lent _ _ _ c.groups_of.ensures.answer c.lent_check-lending.ensures.answer c.in-Ok.is in
+    let read = c.in-Ok-framing.field-0 in
+    let framing = sym c.unframe-framing.ensures.answer ∙ c.in-Ok-framing.is in
     let judged = c.crc_passes.ensures.answer ∙ ap (λ (mode : Mode). crc_passes mode read.index read.crc_right) c.mode_of.ensures.answer in
     let heard = c.hear.ensures in
     let left =
@@ -72,19 +72,19 @@ returns-else-not-crc_passes c =
     record { answer = left.0; numbers = left.1.0; lent = left.1.1.0; sent = left.1.1.1 }
 
 -- 1, 2
-pub returns-in-Unframed : goal.returns-in-Unframed
+pub returns-in-Err-framing : goal.returns-in-Err-framing
 unfolding frame_stepped
-returns-in-Unframed c =
+returns-in-Err-framing c =
     let a = c.args in
     let numbers = a.numbers.now in
     let cid = a.cid.now in
     let csd = a.csd.now in
     let password = a.password.now in
     let lent = lent_of a.memory.now a.map.now in
-    let lending = lent_by numbers cid csd password lent _ _ _ c.groups_of.ensures.answer c.lent_check-lending.ensures.answer c.in-Right.is in
-    let framing = sym c.unframe-framing.ensures.answer ∙ c.in-Unframed.is in
+    let lending = lent_by numbers cid csd password lent _ _ _ c.groups_of.ensures.answer c.lent_check-lending.ensures.answer c.in-Ok.is in
+    let framing = sym c.unframe-framing.ensures.answer ∙ c.in-Err-framing.is in
     let left =
     frame_unframed numbers cid csd password (won_by a.won) (selected_by a.selected) a.frame.now lent _ _ a.answer.now lending framing
-    c.number-in-Unframed.ensures.answer
+    c.number-in-Err-framing.ensures.answer
     in
     record { answer = left.0; numbers = left.1.0; lent = left.1.1.0; sent = left.1.1.1 }
