@@ -1,4 +1,5 @@
-# A picture of a card's states, from a table of moves (a crate's src/table.rt): each move of the table is an
+# A picture of a card's states, from the entries of the tables (crates/moves/src/entries.rt) and a table of
+# moves (a crate's src/table.rt): each move of the table is an
 # arrow, or a word in the box of a state that stays. A second program says what is this picture's own, and
 # the places: mmc_states.awk or spi_states.awk. A move that has no place, and a place that has no move, is
 # an error.
@@ -45,7 +46,7 @@ function joined(a, b) {
 function fail(what) { print "states.awk: " what > "/dev/stderr"; failed = 1; exit 1 }
 
 # The table: its entries by name, the columns, the rows.
-/^const [A-Z]+: Entry = Entry::/ { entry = $0; gsub(/.*Entry::|;.*/, "", entry); entry_of[substr($2, 1, 3)] = entry }
+/^pub const [A-Z]+: Move = Move::/ { entry = $0; gsub(/.*::|\)?;.*/, "", entry); entry_of[substr($3, 1, 3)] = entry }
 /^ *\/\/ idl / { for (i = 2; i <= 11; i++) column[i - 1] = boxed(substr($i, 1, 3)) }
 /^ *\[.*\], *\/\/ / { row($0) }
 
