@@ -2,17 +2,21 @@
 --   copied_whole   what `base::copy` leaves where there is room for all of the bytes
 --   copied_front   what it leaves from the front on
 --   copied_length  as many bytes as there were
+-- and a copy to the front of a list, an element at a time:
+--   copy_turn      a store after the first i elements makes the first i + 1
+--   copy_all       as many as there are is all of them
 -- Assumes nothing.
 use mathlib.Core.Path.{◌≡◌, sym, ap, ap₂, ◌∙◌}
 use mathlib.Core.Bool.{true, false}
 use mathlib.Core.List.{List, ◌++◌}
 use Prim.Native.Nat.{ℕ, ◌+◌, ◌-◌, ◌≤◌, ◌<◌, min}
 use native.Mathlib.Nat.{zero-add}
+use native.Mathlib.Numerals.{add-one}
 use native.Mathlib.Omega.{arith}
 use borrow.Author.Tests.{leb-true, leb-false}
 use lib.Dec.{leb}
-use lib.ListN.{length, take, drop, length-append, length-take, length-drop, drop_of_length-le}
-use lib.Seq.{paste, take-length, take_all}
+use lib.ListN.{length, take, drop, get_or, set, length-append, length-take, length-drop, drop_of_length-le}
+use lib.Seq.{paste, paste-suc, take-length, take_all}
 use Rattle.base.proofs.Cases.{cases}
 use Rattle.base.specs.Output.{copied}
 
@@ -36,3 +40,11 @@ copied_front s o =
 
 pub copied_length : (s o : List ℕ) (at : ℕ) → length (copied s o at) ≡ length o
 copied_length s o at = simp (length-append, length-take, length-drop) (omega arith)
+
+pub copy_turn : (s o : List ℕ) (i : ℕ) → i < length s → i < length o
+    → set (take i s ++ drop i o) i (get_or s i 0) ≡ take (i + 1) s ++ drop (i + 1) o
+copy_turn s o i hs ho =
+    simp zero-add at (paste-suc o 0 s i 0 (rw zero-add ho) hs) ∙ ap (λ (k : ℕ). take k s ++ drop k o) (sym (add-one i))
+
+pub copy_all : (s o : List ℕ) (i : ℕ) → i ≡ length s → take i s ++ drop i o ≡ s ++ drop (length s) o
+copy_all s o i e = ap (λ (k : ℕ). take k s ++ drop k o) e ∙ ap (λ (r : List ℕ). r ++ drop (length s) o) (take-length s)

@@ -1,4 +1,6 @@
 -- Wrong answers that the promises of the small tools rule out, each refuted at a sample that antt computes.
+--   larger      the larger of two numbers for the smaller (std's `min`)
+--   first       the first of two numbers, whichever is smaller
 --   byte_left   a byte that is not made the value
 --   longer      a byte more than there were
 --   behind_changed    a byte behind a copy changed
@@ -8,10 +10,16 @@
 -- Assumes nothing.
 use mathlib.Core.Path.{◌≡◌, ap}
 use mathlib.Core.List.{List, [], ◌∷◌}
-use Prim.Native.Nat.{ℕ}
+use Prim.Native.Nat.{ℕ, min}
 use native.Mathlib.Omega.{arith}
 use lib.ListN.{length, get_or, replicate}
 use Rattle.base.specs.Output.{copied}
+
+larger : min 1 2 ≡ 2 → ⊥
+larger e = omega arith
+
+first : min 2 1 ≡ 2 → ⊥
+first e = omega arith
 
 abbrev two : List ℕ
 two = 1 ∷ 2 ∷ []

@@ -5,17 +5,23 @@
 
 use busline_player::BusPlayer;
 use program_io::{more, play, show};
+use std::io::Read;
 
 // The buffer holds more than the longest record.
 fn main(rt: HostRuntime) {
     let mut buffer = [0u8; 4096];
     let mut out = [0u8; 65536];
-    let mut input = rt.stdin();
+    run(&rt, &mut rt.stdin(), &mut buffer, &mut out);
+}
+
+// Never copied into `main`, where the compiler would clear the buffers twice beside a bus.
+#[inline(never)]
+fn run(rt: &(impl Print + Eprint), input: &mut impl Read, buffer: &mut [u8], out: &mut [u8]) {
     let _ = play(
         &mut BusPlayer::fresh(),
-        &mut buffer,
-        &mut out,
-        |buffer, kept| more(&rt, &mut input, b"standard input", buffer, kept),
-        |out, n| show(&rt, out, n),
+        buffer,
+        out,
+        |buffer, kept| more(rt, input, b"standard input", buffer, kept),
+        |out, n| show(rt, out, n),
     );
 }

@@ -2,7 +2,8 @@
 --   laid_front    it is laid as every answer is
 --   unlaid        one that does not fit leaves the output as it was
 --   laid_whole    one that fits stands at the front
---   sent_by       and whether it fits is told
+--   sent_short    one that does not fit is told as refused 6
+--   sent_long     one that fits is told with its length
 --   start_stored  a block laid behind a first byte, and then the start byte stored there, is the block with its start byte
 --   start_left    where none was laid behind it, none is laid with its start byte
 -- Assumes nothing.

@@ -7,7 +7,7 @@ use cardline_player::CardPlayer;
 use program_io::{more, play, show};
 
 // From buffers of zeros: more than the longest record, the largest memory and map that a record lends,
-// and the longest line. Player and buffers are all that differs from busline's main.
+// and the longest line. Player and buffers are all that differs from busline.
 fn main(rt: HostRuntime) {
     let mut buffer = [0u8; 8192];
     let mut memory = [0u8; 528384];

@@ -1,11 +1,13 @@
 // A card that is driven by a script, between its turns.
 //
 // Offers: `CardPlayer`.
-ghost use Rattle.std.specs.Prelude.{◌≡◌, ◌++◌, length, drop};
+ghost use Rattle.std.specs.Prelude.{◌≡◌, ◌++◌, ◌<◌, length, drop};
 ghost use Rattle.cardline_player.specs.Turn.{at_hand, advanced_of, buffer_of, turn_of};
 ghost use Rattle.cardline_records.specs.Progress.{fresh_progress};
 ghost use Rattle.cardline_records.specs.Record.{text_of, buffers_after};
 ghost use Rattle.cardline_records.specs.Transcript.{cut_text};
+ghost use Rattle.cardline_script.specs.Whole.{longest_record};
+ghost use Rattle.playing.specs.declared.Then.TheVariants.{Waits};
 ghost use Rattle.store.specs.Lent.{lent_of};
 ghost use Rattle.text.specs.Writing.{Put};
 
@@ -45,6 +47,7 @@ impl Player for CardPlayer<'_> {
         ensures buffer { buffer.new ≡ buffer_of self.old.progress self.old.from to buffer.old (lent_of self.old.memory.now self.old.map.now) (length out.old) }
         ensures lent { lent_of self.new.memory.now self.new.map.now ≡ buffers_after self.old.progress (at_hand self.old.from to buffer.old) (lent_of self.old.memory.now self.old.map.now) (length out.old) }
         ensures text { out.new ≡ text_of self.old.progress (at_hand self.old.from to buffer.old) (lent_of self.old.memory.now self.old.map.now) (length out.old) ++ drop result.wrote out.old }
+        ensures room { result.then ≡ Waits → result.to < longest_record }
     {
         let turned = advance(
             self.progress,

@@ -30,19 +30,30 @@ fn script(rt: &(impl Env + Files + Print + Eprint), i: usize) {
     let mut bytes = [0u8; 32768];
     let n = program_io::named(rt, i, &mut bytes).unwrap_or(0);
     if for_bus(rt, i) {
-        play(
-            rt,
-            &mut BusPlayer::fresh(),
-            &mut bytes,
-            n,
-            &mut [0u8; 65536],
-        );
+        play_bus(rt, &mut bytes, n);
     } else {
-        let mut memory = [0u8; 528384];
-        let mut map = [0u8; 256];
-        let mut player = CardPlayer::fresh(&mut memory, &mut map);
-        play(rt, &mut player, &mut bytes, n, &mut [0u8; 131136]);
+        play_card(rt, &mut bytes, n);
     }
+}
+
+// None of these is copied into its caller: it would clear what a bus and a card need for every script,
+// and an output beside a bus twice.
+#[inline(never)]
+fn play_bus(rt: &(impl Print + Eprint), bytes: &mut [u8], n: usize) {
+    play_on_bus(rt, bytes, n, &mut [0u8; 65536]);
+}
+
+#[inline(never)]
+fn play_on_bus(rt: &(impl Print + Eprint), bytes: &mut [u8], n: usize, out: &mut [u8]) {
+    play(rt, &mut BusPlayer::fresh(), bytes, n, out);
+}
+
+#[inline(never)]
+fn play_card(rt: &(impl Print + Eprint), bytes: &mut [u8], n: usize) {
+    let mut memory = [0u8; 528384];
+    let mut map = [0u8; 256];
+    let mut player = CardPlayer::fresh(&mut memory, &mut map);
+    play(rt, &mut player, bytes, n, &mut [0u8; 131136]);
 }
 
 // The first bytes of a buffer: no more come behind them. A text that could not be written is told of,

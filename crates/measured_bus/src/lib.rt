@@ -124,11 +124,15 @@ fn play(bus: Bus, rounds: usize) -> Played
     }
 }
 
-// The address in each place.
+// The address in each place. Place by place: `map` takes all thirty cards along.
 fn addresses_of(bus: Bus) -> [u16; 30]
     ensures { result ≡ addresses_of bus }
 {
-    bus.cards.map(|card| card.link.address)
+    let mut addresses = [0; 30];
+    for place in 0..30 {
+        addresses[place] = bus.cards[place].link.address;
+    }
+    addresses
 }
 
 // Rounds of CMD2 and CMD3 on a bus of cards in Ready: how many CMD2 got an answer, and the address

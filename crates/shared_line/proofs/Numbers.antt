@@ -49,7 +49,7 @@ pub number_less : (a b : List ℕ) → length a ≡ length b → Below 256 a →
 unfolding cid_number
 number_less a b = onward_order 0 a b
 
-number_bytes : (a b : List ℕ) → length a ≡ length b → Below 256 a → Below 256 b → cid_number a ≡ cid_number b → a ≡ b
+pub number_bytes : (a b : List ℕ) → length a ≡ length b → Below 256 a → Below 256 b → cid_number a ≡ cid_number b → a ≡ b
 unfolding cid_number
 number_bytes a b n wa wb e =
     let long : length (bits a) ≡ length (bits b) = length_bits a ∙ ap (λ (k : ℕ). k * 8) n ∙ sym (length_bits b) in

@@ -14,7 +14,7 @@ ghost use Rattle.store.specs.Lent.{seen_of, lending_of};
 ghost use Rattle.store.specs.Map.{entries_right, map_right, protected_in, group_set, bit_of, protection_bits, map_cleared};
 ghost use Rattle.store.specs.Memory.{contents, size_allowed, inside, sector_written, part_read, all_erased};
 
-use base::Refusal;
+use base::{Refusal, fill};
 use std::ops;
 use tags::{Kind, Range, Tags};
 
@@ -128,14 +128,26 @@ pub fn protection_bits(map: &[u8], group: u32) -> u32
 pub fn fill_all(memory: &mut [u8])
     ensures memory { contents memory.new ≡ all_erased (contents memory.old) }
 {
-    memory.fill(0xFF);
+    fill(memory, 0xFF);
 }
 
 // No group protected any more.
 pub fn clear_map(map: &mut [u8])
     ensures map { map.new ≡ map_cleared map.old }
 {
-    map.fill(0);
+    fill(map, 0);
+}
+
+// Bytes copied over as many others, one by one: of the slice's own copy a library for C would ask
+// its program for `memmove`, as that of `measured` does not.
+fn copy_bytes(bytes: &[u8], over: &mut [u8])
+    requires { length bytes.now ≡ length over.old }
+    ensures { over.new ≡ bytes.now }
+{
+    let n = bytes.len().min(over.len());
+    for i in 0..n {
+        over[i] = bytes[i];
+    }
 }
 
 // A sector written with the first of these bytes, where there are enough and the memory has it.
@@ -149,7 +161,7 @@ pub fn write_sector(memory: &mut [u8], sector: u32, bytes: &[u8])
     let number = sector as usize;
     if number < memory.len() / SECTOR {
         let from = number * SECTOR;
-        memory[from..from + SECTOR].copy_from_slice(&bytes[..SECTOR]);
+        copy_bytes(&bytes[..SECTOR], &mut memory[from..from + SECTOR]);
     }
 }
 
@@ -167,7 +179,7 @@ pub fn read_part(memory: &[u8], at: usize, out: &mut [u8]) -> bool
     if memory.len() - n < at {
         return false;
     }
-    out.copy_from_slice(&memory[at..at + n]);
+    copy_bytes(&memory[at..at + n], out);
     true
 }
 
@@ -213,8 +225,8 @@ fn erase_sector(
 }
 
 // Every tagged sector outside protection erased. The answer is whether any was spared. Only the
-// sectors that the tags reach are looked at. Never copied into a caller, whose stack would hold the
-// 512 bytes at every command.
+// sectors that the tags reach are looked at. Never copied into a caller: where the compiler lays the
+// sector of FF on the stack, a frame of any command would hold it.
 #[inline(never)]
 #[tactic(auto, unfolding(crate::specs::Erase::erased_sector))]
 pub fn erase(memory: &mut [u8], map: &[u8], tags: Tags, whole: bool) -> bool

@@ -1,5 +1,6 @@
 -- Laws of the hex digits of bytes.
 --   long    they are twice as many
+--   both    those of some bytes and then more are those of both
 --   turn    those of the first i + 1 bytes are those of the first i and two more
 -- Assumes nothing.
 use mathlib.Core.Path.{◌≡◌, refl, ap, ◌∙◌}
@@ -16,11 +17,12 @@ unfolding hex_of
 long [] = refl
 long (b ∷ s) = omega (arith, long s)
 
-more : (s : List ℕ) (b : ℕ) → hex_of (s ++ (b ∷ [])) ≡ hex_of s ++ (digit_of (b / 16) ∷ digit_of (b % 16) ∷ [])
+pub both : (s t : List ℕ) → hex_of (s ++ t) ≡ hex_of s ++ hex_of t
 unfolding hex_of
-more [] b = refl
-more (x ∷ s) b = ap (λ (l : List ℕ). digit_of (x / 16) ∷ digit_of (x % 16) ∷ l) (more s b)
+both [] t = refl
+both (b ∷ s) t = ap (λ (l : List ℕ). digit_of (b / 16) ∷ digit_of (b % 16) ∷ l) (both s t)
 
 pub turn : (s : List ℕ) (i : ℕ) → i < length s
     → hex_of (take (i + 1) s) ≡ hex_of (take i s) ++ (digit_of (get_or s i 0 / 16) ∷ digit_of (get_or s i 0 % 16) ∷ [])
-turn s i h = ap hex_of (ap (λ (m : ℕ). take m s) (add-one i) ∙ take-suc s i 0 h) ∙ more (take i s) (get_or s i 0)
+unfolding hex_of
+turn s i h = ap hex_of (ap (λ (m : ℕ). take m s) (add-one i) ∙ take-suc s i 0 h) ∙ both (take i s) (get_or s i 0 ∷ [])

@@ -35,11 +35,16 @@ impl Page<'_> {
         self.at = behind(at, bytes.len(), self.out.len());
     }
 
-    #[tactic(auto, using(crate::proofs::Digits::written))]
+    // Most numbers of a line have one digit: it needs no buffer, which is cleared before it is used.
+    #[tactic(auto, using(crate::proofs::Digits::written, crate::proofs::Digits::one))]
     fn decimal(&mut self, n: u64)
         ensures { Writes self.old self.new (decimal_of n) }
     {
-        self.put(Buffer::new().format(n).as_bytes());
+        if n < 10 {
+            self.put(&[b'0' + n as u8]);
+        } else {
+            self.put(Buffer::new().format(n).as_bytes());
+        }
     }
 
     pub fn hex(&mut self, bytes: &[u8])

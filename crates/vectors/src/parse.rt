@@ -1,12 +1,14 @@
 // The numbers and bytes that the words of a script stand for.
 //
-// Offers: `Bytes`; `number_of`, `repeat`, `bytes_of`, `word_of`.
+// Offers: `ROOM`, `Bytes`; `number_of`, `read`, `word_of`.
 use arrayvec::ArrayVec;
 use program_io::digit;
 use std::str;
 
 // The bytes of a word: one that stands for more is refused.
-pub type Bytes = ArrayVec<u8, 4096>;
+pub const ROOM: usize = 4096;
+
+pub type Bytes = ArrayVec<u8, ROOM>;
 
 // The number of a word of decimal digits: no request has one above 9999.
 pub fn number_of(word: &[u8]) -> Option<u16> {
@@ -40,25 +42,27 @@ fn item(text: &[u8], bytes: &mut Bytes) -> Option<()> {
     Some(())
 }
 
-// A byte a number of times, behind the bytes before it.
-pub fn repeat(b: u8, times: u16, bytes: &mut Bytes) -> Option<()> {
-    for _ in 0..times {
-        bytes.try_push(b).ok()?;
+// A byte a number of times, behind the bytes before it: many at once, since a push of each takes seven
+// instructions.
+fn repeat(b: u8, times: u16, bytes: &mut Bytes) -> Option<()> {
+    let run = [b; 64];
+    for at in (0..times).step_by(64) {
+        let n = (times - at).min(64) as usize;
+        bytes.try_extend_from_slice(&run[..n]).ok()?;
     }
     Some(())
 }
 
-// The bytes that a word stands for: `-`, none, or items joined by `+`. Bytes that do not fit are as
-// wrong as a word that stands for none.
-pub fn bytes_of(word: &[u8]) -> Option<Bytes> {
-    let mut bytes = Bytes::new();
+// The bytes that a word stands for, behind those before it: `-`, none, or items joined by `+`. Bytes
+// that do not fit are as wrong as a word that stands for none.
+pub fn read(word: &[u8], bytes: &mut Bytes) -> Option<()> {
     if word == b"-".as_slice() {
-        return Some(bytes);
+        return Some(());
     }
     for text in word.split(|b| *b == b'+') {
-        item(text, &mut bytes)?;
+        item(text, bytes)?;
     }
-    Some(bytes)
+    Some(())
 }
 
 // The number of a word of eight hex digits.

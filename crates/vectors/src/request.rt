@@ -9,7 +9,9 @@
 // bytes of A5, at most 4,096, are lent as the output, and all of them are shown.
 //
 // Offers: `answer`.
-use crate::parse::{Bytes, bytes_of, number_of, repeat, word_of};
+ghost use Rattle.std.specs.Prelude.{◌≤◌, IfSome};
+
+use crate::parse::{Bytes, ROOM, number_of, read, word_of};
 use crate::say::{say, say_checked, say_frame, say_framing, say_hex, say_written};
 use wire::{R1, R2, R3};
 
@@ -30,17 +32,24 @@ fn asked(rt: &impl Print, line: &[u8]) -> Option<()> {
         return of_bytes(rt, verb, operand);
     };
     let fourth = words.next()?;
-    let Some(fifth) = words.next() else {
-        return into(rt, verb, operand, lent(third, fourth)?);
+    let (index, operand, n) = match words.next() {
+        None => (None, operand, lent(third, fourth)?),
+        Some(fifth) => (Some(operand), third, lent(fourth, fifth)?),
     };
     if words.next().is_some() {
         return None;
     }
-    index_into(rt, verb, operand, third, lent(fourth, fifth)?)
+    let mut room = [0xA5u8; ROOM];
+    let out = &mut room[..n];
+    match index {
+        None => into(rt, verb, operand, out),
+        Some(index) => index_into(rt, verb, index, operand, out),
+    }
 }
 
 fn of_bytes(rt: &impl Print, verb: &[u8], hex: &[u8]) -> Option<()> {
-    let bytes = bytes_of(hex)?;
+    let mut bytes = Bytes::new();
+    read(hex, &mut bytes)?;
     let bytes = bytes.as_slice();
     match verb {
         b"read" => say_frame(rt, wire::read_frame(bytes)),
@@ -58,32 +67,42 @@ fn of_bytes(rt: &impl Print, verb: &[u8], hex: &[u8]) -> Option<()> {
     Some(())
 }
 
-// The output that `into N` lends.
-fn lent(into: &[u8], n: &[u8]) -> Option<Bytes> {
+// How many bytes `into N` lends: no more than there is room for.
+fn lent(into: &[u8], n: &[u8]) -> Option<usize>
+    ensures { IfSome result (λ n. n ≤ 4096) }
+{
     if into != b"into".as_slice() {
         return None;
     }
-    let mut out = Bytes::new();
-    repeat(0xA5, number_of(n)?, &mut out)?;
-    Some(out)
+    let n = number_of(n)? as usize;
+    if n <= ROOM { Some(n) } else { None }
 }
 
-fn into(rt: &impl Print, verb: &[u8], operand: &[u8], mut out: Bytes) -> Option<()> {
-    let out = out.as_mut_slice();
+fn into(rt: &impl Print, verb: &[u8], operand: &[u8], out: &mut [u8]) -> Option<()> {
     let answer = match verb {
         b"r3" => {
             let ocr = word_of(operand)?;
             wire::write_r3(R3 { ocr }, out)
         }
         b"r2" => {
-            let register = bytes_of(operand)?.as_slice().try_into().ok()?;
+            let register = register_of(operand)?;
             wire::write_r2(R2 { register }, out)
         }
-        b"block" => wire::write_block(bytes_of(operand)?.as_slice(), out),
+        b"block" => {
+            let mut payload = Bytes::new();
+            read(operand, &mut payload)?;
+            wire::write_block(payload.as_slice(), out)
+        }
         _ => return None,
     };
     say_written(rt, answer, out);
     Some(())
+}
+
+fn register_of(operand: &[u8]) -> Option<[u8; 16]> {
+    let mut bytes = Bytes::new();
+    read(operand, &mut bytes)?;
+    bytes.as_slice().try_into().ok()
 }
 
 fn index_into(
@@ -91,9 +110,8 @@ fn index_into(
     verb: &[u8],
     index: &[u8],
     number: &[u8],
-    mut out: Bytes,
+    out: &mut [u8],
 ) -> Option<()> {
-    let out = out.as_mut_slice();
     let index = u8::try_from(number_of(index)?).ok()?;
     let number = word_of(number)?;
     let answer = match verb {

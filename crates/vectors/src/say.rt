@@ -29,7 +29,7 @@ fn say_refused(rt: &impl Print, refusal: Refusal) {
 }
 
 fn say_command(rt: &impl Print, index: u8, argument: u32) {
-    let _ = print!(rt; "CMD{index} argument {argument:08X}");
+    let _ = print!(rt; "CMD{index} argument {}", Hex(&argument.to_be_bytes()));
 }
 
 pub fn say_frame(rt: &impl Print, frame: Result<Command, Refusal>) {

@@ -11,8 +11,8 @@ use Rattle.std.proofs.lemmas.Slice.{put_mid-paste}
 use Rattle.store.specs.Memory.{sector_written}
 use Rattle.store.proofs.write_sector.Goals as goal
 
-pub copy_from_slice-requires : goal.copy_from_slice-requires
-copy_from_slice-requires c = simp (length-take, length-drop) (omega arith)
+pub copy_bytes-requires : goal.copy_bytes-requires
+copy_bytes-requires c = simp (length-take, length-drop) (omega arith)
 
 pub returns-then-number-memory : goal.returns-then-number-memory
 unfolding sector_written
@@ -23,6 +23,6 @@ returns-then-number-memory c =
     let long = length-take-le 512 s c.if-bytes-lt-SECTOR.false in
     record {
       memory = simp (le-leb 512 _ c.if-bytes-lt-SECTOR.false, lt-ltb c.args.sector _ c.if-number-memory.true)
-          (put_mid-paste at _ m _ (take 512 s) 512 c.copy_from_slice.ensures.after (omega arith) (sym long)
+          (put_mid-paste at _ m _ (take 512 s) 512 c.copy_bytes.ensures (omega arith) (sym long)
           ∙ ap (λ (x : List ℕ). take at m ++ x ++ drop (at + 512) m) (take-take 512 512 s (omega arith)));
     }
